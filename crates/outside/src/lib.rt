@@ -1,0 +1,17 @@
+#![tactic(auto)]
+//! What the shell sees of the outside: where its input comes from, where its text goes, and its
+//! files.
+//!
+//! Three traits say what a reader, a writer and a file store promise; whatever an object knows of
+//! its contents is a ghost member of the trait. A fault is answered only where the object's own
+//! count of faults rose. Objects in memory meet the traits for tests.
+
+mod sink;
+mod text;
+
+pub use sink::{Sink, put_all};
+pub use text::{Text, Words};
+
+/// A read or a write failed outside the program.
+#[derive(Clone, Copy, Debug, PartialEq, Eq)]
+pub struct Failed;
