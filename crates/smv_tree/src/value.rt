@@ -1,0 +1,111 @@
+ghost use Rattle.std.specs.Prelude.{◌≡◌, ◌<◌, ◌^◌};
+
+use crate::Name;
+use std::marker::Model;
+
+/// A word: its bits as a natural number, at a width of up to 255 bits, read as signed or not.
+#[derive(Clone, Copy, Debug, PartialEq, Eq)]
+pub struct WordVal {
+    signed: bool,
+    width: u8,
+    bits: u128,
+}
+
+impl Model for WordVal {
+    ghost use Rattle.std.specs.Prelude.{◌<◌, ◌^◌};
+    ghost use Rattle.smv_tree.specs.Word.{Word};
+
+    ghost Value = { Word };
+
+    ghost view = { λ w. record { signed = w.signed; width = w.width; bits = w.bits } };
+
+    ghost invariant = { λ w. w.bits < 2 ^ w.width };
+
+    ghost inverse = { λ w. record { signed = w.signed; width = w.width; bits = w.bits } };
+}
+
+impl WordVal {
+    /// The word of these bits, which stay below two to the width.
+    pub fn new(signed: bool, width: u8, bits: u128) -> WordVal
+        requires { bits < 2 ^ width }
+        ensures { result ≡ record { signed = signed; width = width; bits = bits } }
+    {
+        WordVal {
+            signed,
+            width,
+            bits,
+        }
+    }
+
+    /// Whether the word is read as signed.
+    pub fn signed(self) -> bool
+        ensures { result ≡ self.signed }
+    {
+        self.signed
+    }
+
+    /// The number of bits.
+    pub fn width(self) -> u8
+        ensures { result ≡ self.width }
+    {
+        self.width
+    }
+
+    /// The bits as a natural number, whether the word is signed or not.
+    pub fn bits(self) -> u128
+        ensures value { result ≡ self.bits }
+        ensures below { self.bits < 2 ^ self.width }
+    {
+        self.bits
+    }
+}
+
+/// A value of a variable or of an expression.
+#[derive(Debug, Drop)]
+pub enum Value {
+    Truth(bool),
+    Int(i64),
+    Sym(Name),
+    Word(WordVal),
+}
+
+/// Values in order: those of an enumeration, or of an expression.
+#[derive(Debug, Drop)]
+pub struct Values {
+    values: Vec<Value>,
+}
+
+impl Model for Values {
+    ghost use Rattle.std.specs.Prelude.{List};
+    ghost use Rattle.smv_tree.specs.declared.value.Value.{Value as SmvValue};
+
+    ghost Value = { List SmvValue };
+
+    ghost view = { λ v. v.values.items };
+}
+
+impl Values {
+    /// The values of a vector, which is taken over.
+    pub fn from_vec(values: Vec<Value>) -> Values
+        ensures { result ≡ values.items }
+    {
+        Values { values }
+    }
+
+    /// The values as a slice.
+    pub fn as_slice(&self) -> &[Value]
+        ensures { result.now ≡ self.now }
+    {
+        self.values.as_slice()
+    }
+}
+
+/// The type of a variable. A range has its least and its greatest value; the `bool` of a word says
+/// whether it is signed, the number is its width in bits.
+#[derive(Debug, Drop)]
+pub enum Ty {
+    Bool,
+    Range(i64, i64),
+    Enum(Values),
+    Word(bool, u8),
+}
