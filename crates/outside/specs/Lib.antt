@@ -1,1 +1,4 @@
 pub mod Told
+pub mod Lines
+pub mod Disk
+pub mod Memory

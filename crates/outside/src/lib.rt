@@ -6,10 +6,16 @@
 //! its contents is a ghost member of the trait. A fault is answered only where the object's own
 //! count of faults rose. Objects in memory meet the traits for tests.
 
+mod files;
+mod memory;
 mod sink;
+mod source;
 mod text;
 
+pub use files::{FileFault, Files};
+pub use memory::{MemFiles, MemSink, MemSource};
 pub use sink::{Sink, put_all};
+pub use source::{Line, LineFault, Source, read_line};
 pub use text::{Text, Words};
 
 /// A read or a write failed outside the program.

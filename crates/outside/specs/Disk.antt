@@ -1,0 +1,54 @@
+-- What reading and writing a file do.
+use Rattle.std.specs.Prelude.{◌≡◌, ◌≢◌, ◌+◌, ◌<◌, ◌≤◌, ℕ, List, ◌++◌, ◌⊎◌, length, Option, Some, None, Result, Ok, Err, ⊤}
+use Rattle.outside.specs.declared.files.FileFault.{FileFault}
+use Rattle.outside.specs.declared.files.FileFault.TheVariants as fault
+use Rattle.outside.specs.Told.{HasRisen}
+
+-- what each name holds
+abbrev pub Held : Type 0
+Held = List ℕ → Option (List ℕ)
+
+-- what is told of a file has the fact, and where nothing is told the fact is as good as true
+abbrev pub IfTold : Option (List ℕ → Option (List ℕ)) → List ℕ → (Option (List ℕ) → Type 0) → Type 0
+IfTold None name P = ⊤
+IfTold (Some held) name P = P (held name)
+
+-- a refusal is what the store tells, or, where it tells nothing, the count of its faults rose
+abbrev pub Refuses : Option (List ℕ → Option (List ℕ)) → List ℕ → ℕ → ℕ → (Option (List ℕ) → Type 0) → Type 0
+Refuses None name before after P = HasRisen before after
+Refuses (Some held) name before after P = P (held name) × (before ≤ after)
+
+-- the file is there and longer than the limit
+abbrev pub IsLonger : ℕ → Option (List ℕ) → Type 0
+IsLonger limit file = (bytes : List ℕ) × (file ≡ Some bytes) × (limit < length bytes)
+
+-- what a read of a whole file of at most so many bytes answers
+abbrev pub ReadsFile : ℕ → List ℕ → Option (List ℕ → Option (List ℕ)) → ℕ → Result (List ℕ) FileFault → ℕ → Type 0
+ReadsFile limit name held before (Ok bytes) after = IfTold held name (λ file. file ≡ Some bytes) × (length bytes ≤ limit) × (before ≤ after)
+ReadsFile limit name held before (Err fault.NotThere) after = Refuses held name before after (λ file. file ≡ None)
+ReadsFile limit name held before (Err (fault.TooLong n)) after = Refuses held name before after (IsLonger limit) × (n ≡ limit + 1)
+ReadsFile limit name held before (Err fault.Failed) after = HasRisen before after
+ReadsFile limit name held before (Err (fault.NoMemory e)) after = before ≤ after
+
+-- each file but this one holds what it held
+abbrev pub KeepsOthers : List ℕ → (List ℕ → Option (List ℕ)) → (List ℕ → Option (List ℕ)) → Type 0
+KeepsOthers name old new = (other : List ℕ) → other ≢ name → new other ≡ old other
+
+-- the file has these bytes, and the others what they had
+abbrev pub Stores : List ℕ → List ℕ → Option (List ℕ → Option (List ℕ)) → Option (List ℕ → Option (List ℕ)) → Type 0
+Stores name bytes None new = new ≡ None
+Stores name bytes (Some old) new = (held : List ℕ → Option (List ℕ)) × (new ≡ Some held) × (held name ≡ Some bytes) × KeepsOthers name old held
+
+-- a write that broke off left the old bytes or a front of the new ones
+abbrev pub BreaksOff : List ℕ → List ℕ → Option (List ℕ → Option (List ℕ)) → Option (List ℕ → Option (List ℕ)) → Type 0
+BreaksOff name bytes None new = new ≡ None
+BreaksOff name bytes (Some old) new = (held : List ℕ → Option (List ℕ)) × (new ≡ Some held) × KeepsOthers name old held
+    × ((held name ≡ old name) ⊎ ((front : List ℕ) × (rest : List ℕ) × (bytes ≡ front ++ rest) × (held name ≡ Some front)))
+
+-- what a write of a whole file answers and leaves
+abbrev pub WritesFile : List ℕ → List ℕ → Option (List ℕ → Option (List ℕ)) → ℕ → Result (Unit {0}) FileFault → Option (List ℕ → Option (List ℕ)) → ℕ → Type 0
+WritesFile name bytes old before (Ok u) new after = Stores name bytes old new × (before ≤ after)
+WritesFile name bytes old before (Err fault.Failed) new after = BreaksOff name bytes old new × HasRisen before after
+WritesFile name bytes old before (Err (fault.NoMemory e)) new after = BreaksOff name bytes old new × (before ≤ after)
+WritesFile name bytes old before (Err fault.NotThere) new after = ⊥
+WritesFile name bytes old before (Err (fault.TooLong n)) new after = ⊥
