@@ -1,0 +1,5 @@
+pub mod Operators
+pub mod Instances
+pub mod Names
+pub mod Values
+pub mod Runs

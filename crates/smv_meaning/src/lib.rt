@@ -1,0 +1,13 @@
+#![tactic(auto)]
+//! What a model means: its instances, variables and states, the values of its expressions, and its
+//! runs.
+//!
+//! The definitions stand in `specs` and walk the module tree as it is written; no other crate's code
+//! is repeated in them. The functions of this crate have no code: their contracts are laws of the
+//! definitions.
+
+mod laws;
+
+pub use laws::{
+    constant_is_its_value, front_of_run_is_run, members_keep_their_order, next_is_one_step,
+};
