@@ -14,7 +14,7 @@ mod text;
 
 pub use files::{FileFault, Files};
 pub use memory::{MemFiles, MemSink, MemSource};
-pub use sink::{Sink, put_all};
+pub use sink::{Sink, put_all, put_parts};
 pub use source::{Line, LineFault, Source, read_line};
 pub use text::{Text, Words};
 

@@ -1,4 +1,4 @@
-ghost use Rattle.std.specs.Prelude.{◌≡◌, ◌<◌, ◌≤◌, ℕ, List, Option, length, take, IfOk, OnOk, OnErr};
+ghost use Rattle.std.specs.Prelude.{◌≡◌, ◌<◌, ◌≤◌, ℕ, List, Option, length, take, flat_map, IfOk, OnOk, OnErr};
 ghost use Rattle.std.specs.Io.KnownBytes.{append_known};
 ghost use Rattle.outside.specs.Told.{HasRisen, AddsFront};
 
@@ -43,6 +43,24 @@ pub fn put_all<S: Sink>(out: &mut S, bytes: &[u8]) -> Result<(), Failed>
     while at < bytes.len() {
         let (_, rest) = bytes.split_at(at);
         at += out.write(rest)?;
+    }
+    Ok(())
+}
+
+/// Writes the parts one after another.
+///
+/// # Errors
+///
+/// `Failed` after a fault of the sink; a front of the parts' bytes was written then.
+#[tactic(auto, using(crate::proofs::ToldLemmas::part_written, crate::proofs::ToldLemmas::part_broken))]
+pub fn put_parts<S: Sink>(out: &mut S, parts: &[&[u8]]) -> Result<(), Failed>
+    ensures ok { OnOk result (S.written out.new ≡ append_known (S.written out.old) (flat_map (λ p. p.now) parts.now)) }
+    ensures err { OnErr result (AddsFront (S.written out.old) (S.written out.new) (flat_map (λ p. p.now) parts.now)) }
+    ensures cause { OnErr result (HasRisen (S.faults out.old) (S.faults out.new)) }
+    ensures count { S.faults out.old ≤ S.faults out.new }
+{
+    for part in parts {
+        put_all(out, part)?;
     }
     Ok(())
 }
