@@ -1,0 +1,11 @@
+pub mod Marks
+pub mod LeftOut
+pub mod Answers
+pub mod Tokens
+pub mod Forms
+pub mod Grammar
+pub mod Reading
+pub mod Part
+pub mod Model
+pub mod Parts
+pub mod StepView
