@@ -1,0 +1,14 @@
+pub mod Plain
+pub mod Evaluation
+pub mod TraceTexts
+pub mod Replays
+pub mod Texts
+pub mod Commands
+pub mod Sessions
+pub mod SectionViews
+pub mod StateViews
+pub mod CommandViews
+pub mod Stops
+pub mod Pieces
+pub mod SessionViews
+pub mod AskedViews

@@ -1,0 +1,56 @@
+-- What the shell writes of an event, and where.
+use Rattle.std.specs.Prelude.{ℕ, Bool, true, false, List, [], ◌∷◌, ◌++◌, codes, decimal, flat_map, if◌then◌else◌}
+use Rattle.smv_tree.specs.declared.place.Place.{Place}
+use Rattle.shell.specs.declared.event.Cause.{Cause}
+use Rattle.shell.specs.declared.event.Cause.TheVariants as cause
+use Rattle.shell.specs.declared.event.Refusal.{Refusal}
+use Rattle.shell.specs.declared.event.Refusal.TheVariants as refusal
+use Rattle.shell.specs.declared.event.Event.{Event}
+use Rattle.shell.specs.declared.event.Event.TheVariants as event
+
+-- parts of a text, one after another
+abbrev pub joined : List (List ℕ) → List ℕ
+joined parts = flat_map (λ p. p) parts
+
+abbrev pub section_word : Cause → List ℕ
+section_word (cause.Init p) = codes "INIT"
+section_word (cause.Trans p) = codes "TRANS"
+
+abbrev pub place_of : Cause → Place
+place_of (cause.Init p) = p
+place_of (cause.Trans p) = p
+
+-- a refusal's line: its number and its text
+abbrev pub refusal_text : Refusal → List ℕ
+refusal_text refusal.NotBuilt = codes "error 899: not built yet\n"
+refusal_text (refusal.NoValue line name) = joined (codes "error 616: line " ∷ decimal line ∷ codes ": no value for " ∷ name ∷ codes "\n" ∷ [])
+refusal_text (refusal.NoFile name) = joined (codes "error 646: " ∷ name ∷ codes ": no such file\n" ∷ [])
+refusal_text (refusal.FileFault name) = joined (codes "error 647: " ∷ name ∷ codes ": file fault\n" ∷ [])
+refusal_text (refusal.FileTooLong name) = joined (codes "error 648: " ∷ name ∷ codes ": longer than 4194304 bytes\n" ∷ [])
+refusal_text refusal.InputFailed = codes "error 801: the input failed\n"
+refusal_text refusal.LineTooLong = codes "error 802: line longer than 65536 bytes\n"
+refusal_text refusal.TooManyLines = codes "error 803: more than 1000000 lines\n"
+refusal_text refusal.NoMemory = codes "error 900: out of memory\n"
+
+-- the line of an event
+abbrev pub event_text : Event → List ℕ
+event_text (event.Executed n) = joined (codes "-- the trace is executed, states: " ∷ decimal n ∷ codes "\n" ∷ [])
+event_text (event.Stops n c) =
+    joined (codes "-- the trace stops at state " ∷ decimal n ∷ codes ": " ∷ section_word c ∷ codes " at "
+        ∷ decimal (place_of c).line ∷ codes ":" ∷ decimal (place_of c).column ∷ codes "\n" ∷ [])
+event_text (event.Refused r) = refusal_text r
+event_text event.Usage = codes "usage: nusat [-int] [-source file] [model.smv] | nusat -gen n\n"
+
+-- whether the event is written to the output, or else to the error output
+abbrev pub is_output : Event → Bool
+is_output (event.Executed n) = true
+is_output (event.Stops n c) = true
+is_output (event.Refused r) = false
+is_output event.Usage = false
+
+-- what the output gains by events, and what the error output gains
+abbrev pub output_of : List Event → List ℕ
+output_of events = flat_map (λ e. if is_output e then event_text e else []) events
+
+abbrev pub errors_of : List Event → List ℕ
+errors_of events = flat_map (λ e. if is_output e then [] else event_text e) events

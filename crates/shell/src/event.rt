@@ -1,0 +1,43 @@
+use outside::Text;
+use smv_tree::Place;
+
+/// The constraint at which a replay stops, by the place of its section word.
+#[derive(Clone, Copy, Debug, PartialEq, Eq)]
+pub enum Cause {
+    Init(Place),
+    Trans(Place),
+}
+
+/// Why a line or a command was refused.
+#[derive(Debug, Drop)]
+pub enum Refusal {
+    /// The line asks for what is not built yet.
+    NotBuilt,
+    /// A section of a trace lacks a value: the line of the section, and the name.
+    NoValue(u64, Text),
+    /// No file has this name.
+    NoFile(Text),
+    /// The file store failed at this file.
+    FileFault(Text),
+    /// The file is longer than a model, a trace or a script may be.
+    FileTooLong(Text),
+    /// The input failed.
+    InputFailed,
+    /// A line of input is too long.
+    LineTooLong,
+    /// There are too many lines of input.
+    TooManyLines,
+    NoMemory,
+}
+
+/// What happened in a session.
+#[derive(Debug, Drop)]
+pub enum Event {
+    /// The trace is a run of so many states.
+    Executed(u64),
+    /// The trace is no run: the state, from 1, at which its replay stops, and the cause.
+    Stops(u64, Cause),
+    Refused(Refusal),
+    /// The words of the program are not of its form.
+    Usage,
+}

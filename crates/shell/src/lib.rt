@@ -1,0 +1,20 @@
+#![tactic(auto)]
+//! The session of the shell, and the call that does all that the program does.
+
+mod command;
+mod event;
+mod judge;
+mod lines;
+mod model;
+mod names;
+mod next;
+mod replay;
+mod run;
+mod sections;
+mod session;
+mod states;
+mod tell;
+
+pub use next::Next;
+pub use run::run_shell;
+pub use session::Session;
