@@ -8,6 +8,9 @@ mod files;
 mod retry;
 mod sink;
 mod source;
+#[cfg(test)]
+mod tests;
+
 use files::SystemFiles;
 use outside::{Files, Sink, Source, Text, Words, put_all};
 use sink::StreamSink;
