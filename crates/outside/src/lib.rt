@@ -10,6 +10,8 @@ mod files;
 mod memory;
 mod sink;
 mod source;
+#[cfg(test)]
+mod tests;
 mod text;
 
 pub use files::{FileFault, Files};

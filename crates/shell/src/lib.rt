@@ -14,6 +14,8 @@ mod sections;
 mod session;
 mod states;
 mod tell;
+#[cfg(test)]
+mod tests;
 
 pub use next::Next;
 pub use run::run_shell;

@@ -1,0 +1,126 @@
+ghost use Rattle.std.specs.Prelude.{◌≡◌, None, []};
+ghost use Rattle.outside.specs.Told.{HasRisen};
+ghost use Rattle.outside.specs.Disk.{ReadsFile};
+
+use crate::retry::{read_some, write_some};
+use outside::{Failed, FileFault, Files, Text};
+use std::alloc::Global;
+use std::io::{ErrorKind, Read};
+use std::marker::Model;
+use std::{fs, rt, str};
+
+/// How many bytes of a file are read at a time.
+const PIECE: usize = 16_384;
+
+/// The files of a system. It tells nothing of their contents.
+#[derive(Drop)]
+pub struct SystemFiles<R: rt::Files + Drop> {
+    system: R,
+    faults: u64,
+}
+
+impl<R: rt::Files + Drop> Model for SystemFiles<R> {
+    ghost use Rattle.std.specs.Prelude.{ℕ};
+
+    ghost Value = { ℕ };
+
+    ghost view = { λ s. s.faults };
+}
+
+impl<R: rt::Files + Drop> SystemFiles<R> {
+    /// The files of this system, of which no call has failed.
+    pub fn new(system: R) -> SystemFiles<R>
+        ensures { result ≡ 0 }
+    {
+        SystemFiles { system, faults: 0 }
+    }
+
+    /// Counts a fault.
+    fn raise(&mut self)
+        ensures { HasRisen self.old self.new }
+    {
+        self.faults = self.faults.saturating_add(1);
+    }
+}
+
+impl<R: rt::Files + Drop> Files for SystemFiles<R> {
+    ghost held = { λ _. None };
+
+    ghost faults = { λ s. s };
+
+    fn read_all(&mut self, alloc: Global, name: &Text, limit: usize) -> Result<Text, FileFault> {
+        let read = read_file(&self.system, alloc, name.as_slice(), limit);
+        if !matches!(&read, Ok(_) | Err(FileFault::NoMemory(_))) {
+            self.raise();
+        }
+        read
+    }
+
+    fn write_all(&mut self, _alloc: Global, name: &Text, bytes: &[u8]) -> Result<(), FileFault> {
+        let Ok(()) = write_file(&self.system, name.as_slice(), bytes) else {
+            self.raise();
+            return Err(FileFault::Failed);
+        };
+        Ok(())
+    }
+}
+
+/// Reads a file, and no further than the limit and one byte. A name that is not UTF-8 is a fault.
+/// The clause is that of a store that tells nothing and counts one fault more.
+fn read_file<R: rt::Files>(
+    system: &R,
+    alloc: Global,
+    name: &[u8],
+    limit: usize,
+) -> Result<Text, FileFault>
+    ensures { ReadsFile limit name.now None 0 result 1 }
+{
+    let Ok(path) = str::from_utf8(name) else {
+        return Err(FileFault::Failed);
+    };
+    let mut file = match fs::open(system, path) {
+        Ok(file) => file,
+        Err(e) if e.kind() == ErrorKind::NotFound => return Err(FileFault::NotThere),
+        Err(_) => return Err(FileFault::Failed),
+    };
+    read_up_to(&mut file, alloc, limit)
+}
+
+/// Reads to the end, and no further than the limit and one byte.
+fn read_up_to<R: Read>(file: &mut R, alloc: Global, limit: usize) -> Result<Text, FileFault>
+    ensures { ReadsFile limit [] None 0 result 1 }
+{
+    let mut bytes = Text::new(alloc);
+    let mut piece = [0u8; PIECE];
+    for _ in 0..u64::MAX {
+        let most = (limit - bytes.len()).saturating_add(1).min(PIECE);
+        let Ok(count) = read_some(file, &mut piece[..most]) else {
+            return Err(FileFault::Failed);
+        };
+        if count == 0 {
+            return Ok(bytes);
+        }
+        bytes.extend(&piece[..count]).map_err(FileFault::NoMemory)?;
+        if bytes.len() > limit {
+            return Err(FileFault::TooLong(limit as u64 + 1));
+        }
+    }
+    Err(FileFault::Failed)
+}
+
+/// Gives a file these bytes. A name that is not UTF-8 is a fault, and so is a write that takes none
+/// of them.
+fn write_file<R: rt::Files>(system: &R, name: &[u8], bytes: &[u8]) -> Result<(), Failed> {
+    let path = str::from_utf8(name).map_err(|_| Failed)?;
+    let mut file = fs::create(system, path).map_err(|_| Failed)?;
+    let mut at = 0;
+    while at < bytes.len() {
+        let (_, rest) = bytes.split_at(at);
+        let count = write_some(&mut file, rest).map_err(|_| Failed)?;
+        if count == 0 {
+            return Err(Failed);
+        }
+        at += count;
+    }
+    Ok(())
+}

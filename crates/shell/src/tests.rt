@@ -1,0 +1,83 @@
+use crate::run_shell;
+use outside::{MemFiles, MemSink, MemSource, Text, Words};
+use std::alloc::{AllocError, Global};
+use std::marker::Brand;
+use std::sync::ledger::{Blank, Ledger};
+use step_count::Steps;
+
+const TOGGLE: &str = "MODULE main\nVAR x : boolean;\nINIT !x\nTRANS next(x) = !x\n";
+
+const TWO_STATES: &str = "-> State: 1.1 <-\nx = FALSE\n-> State: 1.2 <-\nx = TRUE\n-> State: 1.3 <-\n";
+
+fn text(alloc: Global, bytes: &str) -> Result<Text, AllocError> {
+    Text::from_slice(alloc, bytes.as_bytes())
+}
+
+/// What a session on this input writes: its output, its refusals, and its status as a digit. The
+/// model of the toggle is in `m.smv`, a trace of it in `t`, and the output takes so many bytes.
+fn session<L: Ledger>(
+    alloc: Global,
+    word: &str,
+    trace: &Text,
+    input: &[u8],
+    room: usize,
+    blank: Blank,
+) -> Result<Text, AllocError>
+    requires name { blank.name ≡ L.name }
+    requires parts { blank.parts ≡ L.parts }
+    requires some { 0 < blank.parts }
+{
+    let mut words = Words::new(alloc);
+    if !word.is_empty() {
+        words.push(text(alloc, word)?)?;
+    }
+    let mut files = MemFiles::new(alloc, &[5])?;
+    files.put(&text(alloc, "m.smv")?, TOGGLE.as_bytes())?;
+    files.put(&text(alloc, "t")?, trace.as_slice())?;
+    let mut input = MemSource::new(alloc, input, &[])?;
+    let mut out = MemSink::new(alloc, room, &[])?;
+    let mut err = MemSink::new(alloc, 100, &[])?;
+    let mut steps: Steps<L> = Steps::new(blank);
+    let status = run_shell(
+        alloc, &words, &mut input, &mut files, &mut out, &mut err, &mut steps,
+    );
+    let mut said = Text::new(alloc);
+    said.extend(out.bytes())?;
+    said.extend(err.bytes())?;
+    said.push(b'0'.saturating_add(status))?;
+    Ok(said)
+}
+
+#[test]
+fn answers_lines(rt: HostRuntime) -> Result<(), AllocError> {
+    let alloc = rt.alloc();
+    let rows = [
+        ("", "", "", 99, "0"),
+        ("-x", "", "", 99, "usage: nusat [-int] [-source file] [model.smv] | nusat -gen n\n2"),
+        ("m.smv", "x = FALSE\n", "execute_text_trace t", 99, "-- the trace is executed, states: 3\n0"),
+        ("m.smv", "x = TRUE\n", "execute_text_trace t", 99, "-- the trace stops at state 3: TRANS at 4:1\n0"),
+        ("m.smv", "", "execute_text_trace t", 99, "error 616: line 5: no value for x\n0"),
+        ("m.smv", "x = FALSE\n", "\n execute_text_trace u\nquit\nquit now", 99, "error 646: u: no such file\n0"),
+        ("m.smv", "x = 1\n", "execute_text_trace t\n", 99, "error 899: not built yet\n0"),
+        ("m.smv", "x = FALSE\n", "execute_text_trace t\nquit", 9, "-- the tra4"),
+    ];
+    for (word, end, input, room, want) in rows {
+        let mut trace = text(alloc, TWO_STATES)?;
+        trace.extend(end.as_bytes())?;
+        let said = session::<Brand>(alloc, word, &trace, input.as_bytes(), room, Blank::new(1))?;
+        assert!(rt; said.as_slice() == want.as_bytes(), "{want}");
+    }
+    Ok(())
+}
+
+#[test]
+fn reads_lines_to_their_limit(rt: HostRuntime) -> Result<(), AllocError> {
+    let alloc = rt.alloc();
+    let mut line = Text::new(alloc);
+    for _ in 0..65_537 {
+        line.push(b' ')?;
+    }
+    let said = session::<Brand>(alloc, "", &Text::new(alloc), line.as_slice(), 99, Blank::new(1))?;
+    assert!(rt; said.as_slice() == "error 802: line longer than 65536 bytes\n3".as_bytes());
+    Ok(())
+}
