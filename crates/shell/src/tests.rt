@@ -1,3 +1,5 @@
+ghost use Rattle.std.specs.Prelude.{◌≡◌, ◌<◌};
+
 use crate::run_shell;
 use outside::{MemFiles, MemSink, MemSource, Text, Words};
 use std::alloc::{AllocError, Global};
@@ -13,11 +15,10 @@ fn text(alloc: Global, bytes: &str) -> Result<Text, AllocError> {
     Text::from_slice(alloc, bytes.as_bytes())
 }
 
-/// What a session on this input writes: its output, its refusals, and its status as a digit. The
-/// model of the toggle is in `m.smv`, a trace of it in `t`, and the output takes so many bytes.
+/// What a session writes, with steps counted in this ledger.
 fn session<L: Ledger>(
     alloc: Global,
-    word: &str,
+    word: &[u8],
     trace: &Text,
     input: &[u8],
     room: usize,
@@ -29,9 +30,9 @@ fn session<L: Ledger>(
 {
     let mut words = Words::new(alloc);
     if !word.is_empty() {
-        words.push(text(alloc, word)?)?;
+        words.push(Text::from_slice(alloc, word)?)?;
     }
-    let mut files = MemFiles::new(alloc, &[5])?;
+    let mut files = MemFiles::new(alloc, &[])?;
     files.put(&text(alloc, "m.smv")?, TOGGLE.as_bytes())?;
     files.put(&text(alloc, "t")?, trace.as_slice())?;
     let mut input = MemSource::new(alloc, input, &[])?;
@@ -48,6 +49,18 @@ fn session<L: Ledger>(
     Ok(said)
 }
 
+/// What a session on this input writes: its output, its refusals, and its status as a digit. The
+/// model of the toggle is in `m.smv`, a trace in `t`, and the output takes so many bytes.
+fn said(
+    alloc: Global,
+    word: &str,
+    trace: &Text,
+    input: &[u8],
+    room: usize,
+) -> Result<Text, AllocError> {
+    session::<Brand>(alloc, word.as_bytes(), trace, input, room, Blank::new(1))
+}
+
 #[test]
 fn answers_lines(rt: HostRuntime) -> Result<(), AllocError> {
     let alloc = rt.alloc();
@@ -59,12 +72,12 @@ fn answers_lines(rt: HostRuntime) -> Result<(), AllocError> {
         ("m.smv", "", "execute_text_trace t", 99, "error 616: line 5: no value for x\n0"),
         ("m.smv", "x = FALSE\n", "\n execute_text_trace u\nquit\nquit now", 99, "error 646: u: no such file\n0"),
         ("m.smv", "x = 1\n", "execute_text_trace t\n", 99, "error 899: not built yet\n0"),
-        ("m.smv", "x = FALSE\n", "execute_text_trace t\nquit", 9, "-- the tra4"),
+        ("m.smv", "x = FALSE\n", "execute_text_trace t\nquit", 10, "-- the tra4"),
     ];
     for (word, end, input, room, want) in rows {
         let mut trace = text(alloc, TWO_STATES)?;
         trace.extend(end.as_bytes())?;
-        let said = session::<Brand>(alloc, word, &trace, input.as_bytes(), room, Blank::new(1))?;
+        let said = said(alloc, word, &trace, input.as_bytes(), room)?;
         assert!(rt; said.as_slice() == want.as_bytes(), "{want}");
     }
     Ok(())
@@ -75,9 +88,9 @@ fn reads_lines_to_their_limit(rt: HostRuntime) -> Result<(), AllocError> {
     let alloc = rt.alloc();
     let mut line = Text::new(alloc);
     for _ in 0..65_537 {
-        line.push(b' ')?;
+        line.push(b'a')?;
     }
-    let said = session::<Brand>(alloc, "", &Text::new(alloc), line.as_slice(), 99, Blank::new(1))?;
+    let said = said(alloc, "", &Text::new(alloc), line.as_slice(), 99)?;
     assert!(rt; said.as_slice() == "error 802: line longer than 65536 bytes\n3".as_bytes());
     Ok(())
 }
