@@ -20,6 +20,7 @@ nowhere_is_end {A} p xs e = by_test (nat_lt (position_or_len p xs) (length xs)) 
         at_head : (b : Bool) → position_or_len p ys < length ys + 1 → cond (not b) (1 + position_or_len p ys) 0 < length (y ∷ ys) + 1
         at_head true h = omega arith
         at_head false h = omega arith
+
     by_test : (t : Bool) → nat_lt (position_or_len p xs) (length xs) ≡ t → cond t (Some (position_or_len p xs)) None ≡ None → position_or_len p xs ≡ length xs
     by_test true h f = absurd (none-some _ (sym f))
     by_test false h f = omega (arith, ltb-false _ _ h, most xs)
@@ -38,6 +39,7 @@ word_ends (b ∷ line) = by_test (is_blank b) (word_ends line)
   where
     p : ℕ
     p = position_or_len is_blank line
+
     by_test : (t : Bool) → (first_word line ≡ take p line) × (behind_word line ≡ drop p line)
         → (cond t [] (b ∷ first_word line) ≡ take (cond (not t) (1 + p) 0) (b ∷ line)) × (cond t (b ∷ line) (behind_word line) ≡ drop (cond (not t) (1 + p) 0) (b ∷ line))
     by_test true h = (refl, refl)

@@ -14,6 +14,7 @@ found_at (m ∷ names) (x ∷ xs) n h = by_test (bytes_eq n m) (λ k. found_at n
   where
     further : (k : ℕ) → get_or xs k false ≡ get_or (x ∷ xs) (1 + k) false
     further k = let e : suc k ≡ 1 + k = omega arith in ap (λ j. get_or (x ∷ xs) j false) e
+
     by_test : (b : Bool) → (position_or_len (bytes_eq n) names < length names → bool_at names xs n ≡ get_or xs (position_or_len (bytes_eq n) names) false) → cond (not b) (1 + position_or_len (bytes_eq n) names) 0 < length (m ∷ names) → cond b x (bool_at names xs n) ≡ get_or (x ∷ xs) (cond (not b) (1 + position_or_len (bytes_eq n) names) 0) false
     by_test true f k = refl
     by_test false f k = f (omega arith) ∙ further (position_or_len (bytes_eq n) names)

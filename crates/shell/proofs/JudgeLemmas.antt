@@ -30,9 +30,11 @@ judges_states b text sections states n plain is some gap same count =
   where
     truths : List (List Bool)
     truths = map (truths_of (names_of b.parts)) sections
+
     by_stop : (o : Option (ℕ × Cause)) → n ≡ length truths → Judged b truths o → Judges (b ∷ []) text (event_of n o)
     by_stop None k j = (sections, is, gap, k ∙ length-map sections (truths_of (names_of b.parts)), j)
     by_stop (Some stop) k j = (sections, is, gap, j)
+
     at_truths : n ≡ length truths → Judges (b ∷ []) text (event_of n (stop_of (names_of b.parts) b.parts truths))
     at_truths k = by_stop (stop_of (names_of b.parts) b.parts truths) k (judged b (plain_facts b plain) truths (subst (λ m. 0 < m) (sym (length-map sections (truths_of (names_of b.parts)))) some) (full_states b sections))
 
@@ -52,7 +54,7 @@ pub a_replay : (program : List Body) (names : List (List ℕ)) (text : List ℕ)
     → (b : Body) → program ≡ b ∷ [] → is_plain_body b ≡ true → ev ≡ event_of (length states) (stop_of (names_of b.parts) b.parts states) → Judges program text ev
 a_replay program names text sections states ev e is some (gap, same) b one plain says =
     subst (λ p. Judges p text ev) (sym one) (subst (Judges (b ∷ []) text) (sym says)
-        (judges_states b text sections states (length states) plain (subst (λ ns. IsTraceText ns text sections) names_are is) some (subst (λ ns. first_gap ns sections ≡ None) names_are gap) (same ∙ ap (λ ns. map (truths_of ns) sections) names_are) refl))
+    (judges_states b text sections states (length states) plain (subst (λ ns. IsTraceText ns text sections) names_are is) some (subst (λ ns. first_gap ns sections ≡ None) names_are gap) (same ∙ ap (λ ns. map (truths_of ns) sections) names_are) refl))
   where
     names_are : names ≡ names_of b.parts
     names_are = e ∙ ap program_names one

@@ -42,6 +42,7 @@ lines_cut (b ∷ text) h = by_test (b == 10) h (lines_cut text)
   where
     p : ℕ
     p = position_or_len (λ b. b == 10) text
+
     by_test : (t : Bool) → cond (not t) (1 + p) 0 < length (b ∷ text) → (p < length text → lines_of text ≡ take p text ∷ lines_of (drop 1 (drop p text)))
         → cond t ([] ∷ lines_of text) (onto_first b (lines_of text)) ≡ take (cond (not t) (1 + p) 0) (b ∷ text) ∷ lines_of (drop 1 (drop (cond (not t) (1 + p) 0) (b ∷ text)))
     by_test true k f = refl
@@ -53,6 +54,7 @@ lines_whole (b ∷ text) h = by_test (b == 10) h (lines_whole text)
   where
     p : ℕ
     p = position_or_len (λ b. b == 10) text
+
     by_test : (t : Bool) → length (b ∷ text) ≡ cond (not t) (1 + p) 0 → (length text ≡ p → lines_of text ≡ text ∷ []) → cond t ([] ∷ lines_of text) (onto_first b (lines_of text)) ≡ (b ∷ text) ∷ []
     by_test true k f = absurd (omega arith)
     by_test false k f = ap (onto_first b) (f (omega arith))
@@ -63,6 +65,7 @@ feed_most (b ∷ text) = by_test (b == 10) (feed_most text)
   where
     p : ℕ
     p = position_or_len (λ b. b == 10) text
+
     by_test : (t : Bool) → p < length text + 1 → cond (not t) (1 + p) 0 < length (b ∷ text) + 1
     by_test true h = omega arith
     by_test false h = omega arith
@@ -73,6 +76,7 @@ cut_at text i e = by_test (nat_lt (position_or_len (λ b. b == 10) text) (length
   where
     p : ℕ
     p = position_or_len (λ b. b == 10) text
+
     by_test : (t : Bool) → nat_lt p (length text) ≡ t → cond t (Some p) None ≡ Some i → lines_of text ≡ take i text ∷ lines_of (drop 1 (drop i text))
     by_test true h f = lines_cut text (ltb-true _ _ h) ∙ ap (λ n. take n text ∷ lines_of (drop 1 (drop n text))) (same_Some _ _ f)
     by_test false h f = absurd (none-some i f)
@@ -83,6 +87,7 @@ cut_nowhere text e = by_test (nat_lt (position_or_len (λ b. b == 10) text) (len
   where
     p : ℕ
     p = position_or_len (λ b. b == 10) text
+
     by_test : (t : Bool) → nat_lt p (length text) ≡ t → cond t (Some p) None ≡ None → lines_of text ≡ text ∷ []
     by_test true h f = absurd (none-some _ (sym f))
     by_test false h f = lines_whole text (omega (arith, ltb-false _ _ h, feed_most text))

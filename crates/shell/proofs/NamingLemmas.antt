@@ -105,7 +105,7 @@ resolve_is_name : (b : Body) → PlainFacts b → (up names : List (List ℕ)) �
 resolve_is_name b f [] [] = tt
 resolve_is_name b f [] (n ∷ rest) =
     subst IsName (sym (the_resolved b f n rest))
-        (follow_is_name b f (member_of [] [] n b.parts (otherwise b n)) rest (member_is_name (names_of b.parts) [] [] n b.parts (otherwise b n) f.plain_parts (otherwise_is_name b n)))
+    (follow_is_name b f (member_of [] [] n b.parts (otherwise b n)) rest (member_is_name (names_of b.parts) [] [] n b.parts (otherwise b n) f.plain_parts (otherwise_is_name b n)))
 resolve_is_name b f (m ∷ up) [] = tt
 resolve_is_name b f (m ∷ up) (n ∷ rest) =
     subst IsName (sym (ap (λ all. looked_up (b ∷ []) (actual_target up (resolve (b ∷ []) up)) all (m ∷ up) n rest) (the_instances b f))) tt

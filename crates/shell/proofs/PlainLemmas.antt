@@ -44,9 +44,9 @@ pub comes_again : (xs : List (List ℕ)) (n : List ℕ) (ys : List (List ℕ)) �
 comes_again [] n ys e = absurd (both_ways false refl e)
 comes_again (x ∷ xs) n ys e =
     ⊎_elim
-        (λ h. ap (λ b. not b && are_distinct (xs ++ n ∷ ys)) (is_declared-append xs (n ∷ ys) x ∙ or_true (is_declared xs x) (is_declared (n ∷ ys) x) (true_or (bytes_eq x n) (is_declared ys x) (bytes_eq-flip n x h))))
-        (λ h. and_false_right (not (is_declared (xs ++ n ∷ ys) x)) (are_distinct (xs ++ n ∷ ys)) (comes_again xs n ys h))
-        (or_cases (bytes_eq n x) (is_declared xs n) e)
+    (λ h. ap (λ b. not b && are_distinct (xs ++ n ∷ ys)) (is_declared-append xs (n ∷ ys) x ∙ or_true (is_declared xs x) (is_declared (n ∷ ys) x) (true_or (bytes_eq x n) (is_declared ys x) (bytes_eq-flip n x h))))
+    (λ h. and_false_right (not (is_declared (xs ++ n ∷ ys) x)) (are_distinct (xs ++ n ∷ ys)) (comes_again xs n ys h))
+    (or_cases (bytes_eq n x) (is_declared xs n) e)
 
 -- a new name behind distinct names
 pub distinct_more : (xs : List (List ℕ)) (n : List ℕ) → are_distinct xs ≡ true → is_declared xs n ≡ false → are_distinct (xs ++ n ∷ []) ≡ true
@@ -54,15 +54,17 @@ distinct_more [] n e f = refl
 distinct_more (x ∷ xs) n e f =
     let p = and_parts (not (is_declared xs x)) (are_distinct xs) e in
     and_from _ _
-        (ap not (is_declared-append xs (n ∷ []) x ∙ neither (is_declared xs x) (is_declared (n ∷ []) x) (not_true (is_declared xs x) p.0) (neither (bytes_eq x n) false (bytes_eq-other n x (first_false (bytes_eq n x) (is_declared xs n) f)) refl)))
-        (distinct_more xs n p.1 (second_false (bytes_eq n x) (is_declared xs n) f))
+    (ap not (is_declared-append xs (n ∷ []) x ∙ neither (is_declared xs x) (is_declared (n ∷ []) x) (not_true (is_declared xs x) p.0) (neither (bytes_eq x n) false (bytes_eq-other n x (first_false (bytes_eq n x) (is_declared xs n) f)) refl)))
+    (distinct_more xs n p.1 (second_false (bytes_eq n x) (is_declared xs n) f))
   where
     not_true : (b : Bool) → not b ≡ true → b ≡ false
     not_true true h = sym h
     not_true false h = refl
+
     first_false : (a b : Bool) → (a || b) ≡ false → a ≡ false
     first_false true b h = h
     first_false false b h = refl
+
     second_false : (a b : Bool) → (a || b) ≡ false → b ≡ false
     second_false true b h = absurd (both_ways true h refl)
     second_false false b h = h

@@ -45,6 +45,7 @@ finds_more asks cause part parts rest when_asked when_not found = by_cause (caus
     after : (o : Option Cause) → asks part → Finds asks cause parts o → Finds asks cause (part ∷ parts) o
     after None a (finds_none all) = finds_none (a, all)
     after (Some c) a (finds _ q (before, others, e, holds, fails) is) = finds c q (part ∷ before, others, ap (λ ps. part ∷ ps) e, (a, holds), fails) is
+
     by_cause : (o : Option Cause) → cause part ≡ o → Finds asks cause (part ∷ parts) (or_first o rest)
     by_cause (Some c) h = finds c part ([], parts, refl, tt, when_not c h) h
     by_cause None h = after rest (when_asked h) found
@@ -136,9 +137,10 @@ legal_named (n ∷ names) (x ∷ s) h = (tt, legal_named names s (omega arith))
 
 -- a full state is allowed
 allowed : (b : Body) → PlainFacts b → (s : List Bool) → length s ≡ length (names_of b.parts) → IsAllowed (b ∷ []) (map Truth s)
-allowed b f s h =
-    (subst (λ vs. AreLegal vs (map Truth s)) (sym (ap state_variables (the_variables b f) ∙ named_states (names_of b.parts))) (legal_named (names_of b.parts) s h),
-    asked_of_main b f (AsksEach (b ∷ []) (at_state (map Truth s))) (all_each b s b.parts f.plain_parts))
+allowed b f s h = (
+  subst (λ vs. AreLegal vs (map Truth s)) (sym (ap state_variables (the_variables b f) ∙ named_states (names_of b.parts))) (legal_named (names_of b.parts) s h),
+  asked_of_main b f (AsksEach (b ∷ []) (at_state (map Truth s))) (all_each b s b.parts f.plain_parts),
+)
 
 named_inputs : (names : List (List ℕ)) → input_variables (map variable_named names) ≡ []
 named_inputs [] = refl
@@ -153,10 +155,11 @@ kept_named b s t all (n ∷ names) = (λ e. absurd (not_frozen e), kept_named b 
 
 -- a step of which all that is asked holds
 stepped : (b : Body) → PlainFacts b → (s t : List Bool) → AllByRecursion (AsksStep (b ∷ []) (at_state (map Truth s)) (at_state (map Truth t)) (main_of b)) b.parts → IsStep (b ∷ []) (map Truth s) [] (map Truth t)
-stepped b f s t h =
-    (subst (λ vs. AreLegal vs []) (sym (ap input_variables (the_variables b f) ∙ named_inputs (names_of b.parts))) tt,
-    subst (λ vs. AllByRecursion (Keeps (at_state (map Truth s)) (at_state (map Truth t)) vs) vs) (sym (the_variables b f)) (kept_named b s t (map variable_named (names_of b.parts)) (names_of b.parts)),
-    asked_of_main b f (AsksStep (b ∷ []) (at_state (map Truth s)) (at_state (map Truth t))) h)
+stepped b f s t h = (
+  subst (λ vs. AreLegal vs []) (sym (ap input_variables (the_variables b f) ∙ named_inputs (names_of b.parts))) tt,
+  subst (λ vs. AllByRecursion (Keeps (at_state (map Truth s)) (at_state (map Truth t)) vs) vs) (sym (the_variables b f)) (kept_named b s t (map variable_named (names_of b.parts)) (names_of b.parts)),
+  asked_of_main b f (AsksStep (b ∷ []) (at_state (map Truth s)) (at_state (map Truth t))) h,
+)
 
 -- a cause is that of a constraint
 init_cause_is : (names : List (List ℕ)) (s : List Bool) (part : Part) (c : Cause) → init_cause names s part ≡ Some c → (p : Place) × (e : Tree) × (part ≡ constraint section.Init p e) × (c ≡ Init p)
@@ -238,9 +241,11 @@ behind_is b f n s (t ∷ states) full =
   where
     names : List (List ℕ)
     names = names_of b.parts
+
     onwards : (o : Option (ℕ × Cause)) → IsStep (b ∷ []) (map Truth s) [] (map Truth t) → Behind b (n + 1) (t ∷ states) o → Behind b n (s ∷ t ∷ states) o
     onwards None st p = (allowed b f s full.0, st, p)
     onwards (Some stop) st p = breaks_later b f n s t states stop.0 stop.1 (allowed b f s full.0) st p
+
     by_cause : (o : Option Cause) → Finds (AsksStep (b ∷ []) (at_state (map Truth s)) (at_state (map Truth t)) (main_of b)) (step_cause names s t) b.parts o → (rest : Option (ℕ × Cause)) → Behind b (n + 1) (t ∷ states) rest → Behind b n (s ∷ t ∷ states) (or_first (at_number (n + 1) o) rest)
     by_cause None (finds_none all) rest p = onwards rest (stepped b f s t all) p
     by_cause (Some c) (finds _ part bad is) rest p =
@@ -272,23 +277,33 @@ judged b f (s ∷ states) h full =
       where
         never : Init q ≡ Trans r.fails.0 → ⊥
         never e = cc
-    onwards (Some (k, Trans q)) first r =
-        (main_of b, valued r.front, map Truth r.s, map Truth r.t, valued r.rest, r.fails.1, the_instances b f,
-        ap valued r.split ∙ (map-append (map Truth) (r.front ++ r.s ∷ []) (r.t ∷ r.rest) ∙ ap (λ xs. xs ++ map Truth r.t ∷ valued r.rest) (map-append (map Truth) r.front (r.s ∷ []))),
-        omega (arith, r.number, length-map {A = List Bool} {B = List Value}),
-        traced r.front r.s r.t r.rest r.split r.path,
-        subst (λ (p : Place). FailsFirst (AsksStep (b ∷ []) (at_state (map Truth r.s)) (at_state (map Truth r.t)) (main_of b)) b.parts (constraint section.Trans p r.fails.1)) (sym (same_place q r.fails.0 r.fails.2)) r.fails.3)
+    onwards (Some (k, Trans q)) first r = (
+      main_of b,
+      valued r.front,
+      map Truth r.s,
+      map Truth r.t,
+      valued r.rest,
+      r.fails.1,
+      the_instances b f,
+      ap valued r.split ∙ (map-append (map Truth) (r.front ++ r.s ∷ []) (r.t ∷ r.rest) ∙ ap (λ xs. xs ++ map Truth r.t ∷ valued r.rest) (map-append (map Truth) r.front (r.s ∷ []))),
+      omega (arith, r.number, length-map {A = List Bool} {B = List Value}),
+      traced r.front r.s r.t r.rest r.split r.path,
+      subst (λ (p : Place). FailsFirst (AsksStep (b ∷ []) (at_state (map Truth r.s)) (at_state (map Truth r.t)) (main_of b)) b.parts (constraint section.Trans p r.fails.1)) (sym (same_place q r.fails.0 r.fails.2)) r.fails.3,
+    )
       where
         same_place : (p o : Place) → Trans p ≡ Trans o → p ≡ o
         same_place p o e = cc
+
         traced : (front : List (List Bool)) (u t : List Bool) (rest : List (List Bool)) → s ∷ states ≡ (front ++ u ∷ []) ++ t ∷ rest → IsPathOf b (front ++ u ∷ []) → IsTrace (b ∷ []) (valued front ++ map Truth u ∷ [])
         traced [] u t rest e p = (subst (λ x. IsFirst (b ∷ []) (map Truth x)) (first_same s u states (t ∷ rest) e) first, p)
-        traced (x ∷ front) u t rest e p =
-            (subst (λ y. IsFirst (b ∷ []) (map Truth y)) (first_same s x states ((front ++ u ∷ []) ++ t ∷ rest) e) first,
-            subst (λ ys. IsPath (b ∷ []) (map Truth x) ys (map (λ _. []) ys)) (map-append (map Truth) front (u ∷ [])) p)
+        traced (x ∷ front) u t rest e p = (
+          subst (λ y. IsFirst (b ∷ []) (map Truth y)) (first_same s x states ((front ++ u ∷ []) ++ t ∷ rest) e) first,
+          subst (λ ys. IsPath (b ∷ []) (map Truth x) ys (map (λ _. []) ys)) (map-append (map Truth) front (u ∷ [])) p,
+        )
+
     by_cause : (o : Option Cause) → Finds (AsksFirst (b ∷ []) (at_state (map Truth s)) (main_of b)) (init_cause (names_of b.parts) s) b.parts o → (rest : Option (ℕ × Cause)) → Behind b 1 (s ∷ states) rest → Judged b (s ∷ states) (or_first (at_number 1 o) rest)
     by_cause None (finds_none all) rest p = onwards rest (asked_of_main b f (AsksFirst (b ∷ []) (at_state (map Truth s))) all) p
     by_cause (Some c) (finds _ part bad is) rest p =
         let q = init_cause_is (names_of b.parts) s part c is in
         subst (λ x. StopsAt (b ∷ []) (valued (s ∷ states)) 1 x) (sym q.3)
-            (main_of b, map Truth s, valued states, q.1, the_instances b f, refl, refl, subst (FailsFirst (AsksFirst (b ∷ []) (at_state (map Truth s)) (main_of b)) b.parts) q.2 bad)
+        (main_of b, map Truth s, valued states, q.1, the_instances b f, refl, refl, subst (FailsFirst (AsksFirst (b ∷ []) (at_state (map Truth s)) (main_of b)) b.parts) q.2 bad)

@@ -43,14 +43,16 @@ added_front old mid new a b c e (front, rest, s, w) g =
     (a ++ front, rest, g ∙ (ap (λ x. a ++ x) s ∙ sym (append_assoc a front rest)), w ∙ (ap (λ m. append_known m front) e ∙ append_known-twice old a front))
 
 told_both : (xs ys : List Event) (a b c : Sinks) → WritesAll xs a.out b.out a.err b.err → WritesAll ys b.out c.out b.err c.err → WritesAll (xs ++ ys) a.out c.out a.err c.err
-told_both xs ys a b c t u =
-    (added_both a.out b.out c.out (output_of xs) (output_of ys) (output_of (xs ++ ys)) t.0 u.0 (output_of-append xs ys),
-    added_both a.err b.err c.err (errors_of xs) (errors_of ys) (errors_of (xs ++ ys)) t.1 u.1 (errors_of-append xs ys))
+told_both xs ys a b c t u = (
+  added_both a.out b.out c.out (output_of xs) (output_of ys) (output_of (xs ++ ys)) t.0 u.0 (output_of-append xs ys),
+  added_both a.err b.err c.err (errors_of xs) (errors_of ys) (errors_of (xs ++ ys)) t.1 u.1 (errors_of-append xs ys),
+)
 
 told_front : (xs ys : List Event) (a b c : Sinks) → WritesAll xs a.out b.out a.err b.err → WritesFront ys b.out c.out b.err c.err → WritesFront (xs ++ ys) a.out c.out a.err c.err
-told_front xs ys a b c t u =
-    (added_front a.out b.out c.out (output_of xs) (output_of ys) (output_of (xs ++ ys)) t.0 u.0 (output_of-append xs ys),
-    added_front a.err b.err c.err (errors_of xs) (errors_of ys) (errors_of (xs ++ ys)) t.1 u.1 (errors_of-append xs ys))
+told_front xs ys a b c t u = (
+  added_front a.out b.out c.out (output_of xs) (output_of ys) (output_of (xs ++ ys)) t.0 u.0 (output_of-append xs ys),
+  added_front a.err b.err c.err (errors_of xs) (errors_of ys) (errors_of (xs ++ ys)) t.1 u.1 (errors_of-append xs ys),
+)
 
 -- a fault since a moment is one since an earlier moment
 later_fault : (a b c : ℕ) → a ≤ b → HasRisen b c → HasRisen a c
@@ -70,16 +72,16 @@ never_four e = cc
 pub so_far_more : (start now mid : World) (a b c : Sinks) (count : ℕ) (es : List Event) (next : Next) → SoFar start now a b count → Turns count now es mid next → Told es next Go b c → b.out_faults ≤ c.out_faults → b.err_faults ≤ c.err_faults → SoFar start mid a c (count + 1)
 so_far_more start now mid a b c count es next so turns told h k =
     ⊎_elim
-        (λ t. record {
-            events = so.events ++ es;
-            told = told_both so.events es a b c so.told t.1;
-            out_count = omega (arith, so.out_count);
-            err_count = omega (arith, so.err_count);
-            onwards = λ others new status r. subst (λ xs. Runs 0 start xs new status) (sym (append_assoc so.events es others))
-                (so.onwards (es ++ others) new status (goes_on count now es mid others new status (subst (Turns count now es mid) (sym t.0) turns) r));
-        })
-        (λ t. absurd (never_four t.0))
-        told
+    (λ t. record {
+      events = so.events ++ es;
+      told = told_both so.events es a b c so.told t.1;
+      out_count = omega (arith, so.out_count);
+      err_count = omega (arith, so.err_count);
+      onwards = λ others new status r. subst (λ xs. Runs 0 start xs new status) (sym (append_assoc so.events es others))
+          (so.onwards (es ++ others) new status (goes_on count now es mid others new status (subst (Turns count now es mid) (sym t.0) turns) r));
+    })
+    (λ t. absurd (never_four t.0))
+    told
 
 -- what a session of turns came to
 abbrev pub Came : World → World → ℕ → Sinks → Sinks → Type 0
@@ -92,22 +94,26 @@ not_go m e = cc
 pub so_far_end : (start now new : World) (a b c : Sinks) (count : ℕ) (es : List Event) (next : Next) (status : ℕ) → SoFar start now a b count → Turns count now es new next → Told es next (Stop status) b c → Came start new status a c
 so_far_end start now new a b c count es next status so turns told =
     ⊎_elim
-        (λ t.
-            let stops = subst (Turns count now es new) (sym t.0) turns in
-            (so.events ++ es, so.onwards es new status (ends count now es new status stops), inl (not_four count now es new status stops, told_both so.events es a b c so.told t.1)))
-        (λ t.
-            let four = status_of status 4 t.0 in
-            (so.events ++ es, so.onwards es new status (subst (Runs count now es new) (sym four) (breaks count now es new next turns)),
-            inr (four, told_front so.events es a b c so.told t.1, sink_failed a b c so.out_count so.err_count t.2)))
-        told
+    (λ t.
+    let stops = subst (Turns count now es new) (sym t.0) turns in
+    (so.events ++ es, so.onwards es new status (ends count now es new status stops), inl (not_four count now es new status stops, told_both so.events es a b c so.told t.1)))
+    (λ t.
+    let four = status_of status 4 t.0 in (
+      so.events ++ es,
+      so.onwards es new status (subst (Runs count now es new) (sym four) (breaks count now es new next turns)),
+      inr (four, told_front so.events es a b c so.told t.1, sink_failed a b c so.out_count so.err_count t.2),
+    ))
+    told
   where
     status_of : (m n : ℕ) → Stop m ≡ Stop n → m ≡ n
     status_of m n e = cc
+
     not_four : (k : ℕ) (old : World) (xs : List Event) (w : World) (n : ℕ) → Turns k old xs w (Stop n) → n ≢ 4
     not_four k old xs w n (r, reads, cause, treats) = by_read r treats
       where
         of_status : (m : ℕ) → (m ≡ 4 → ⊥) → Stop n ≡ Stop m → n ≢ 4
         of_status m no_four e f = no_four (sym (status_of n m e) ∙ f)
+
         by_read : (x : Result line.Line LineFault) → Treats k x old xs w (Stop n) → n ≢ 4
         by_read (Ok line.TheVariants.End) t = of_status 0 (λ f. absurd (omega arith)) t.2
         by_read (Ok (line.TheVariants.Line text)) t = by_limit (k == 1000000) t
@@ -117,6 +123,7 @@ so_far_end start now new a b c count es next status so turns told =
             by_command quit d = of_status 0 (λ f. absurd (omega arith)) d.3
             by_command unknown d = absurd (not_go n d.3)
             by_command (execute file) d = absurd (not_go n d.3)
+
             by_limit : (b : Bool) → MatchBool b ((xs ≡ Refused refusal.TooManyLines ∷ []) × KeepsSession old w × (Stop n ≡ Stop 3)) (Does old.state old.disk text xs w.state w.disk (Stop n)) → n ≢ 4
             by_limit true d = of_status 3 (λ f. absurd (omega arith)) d.2
             by_limit false d = ⊎_elim (by_command (command_of text)) (λ e. of_status 5 (λ f. absurd (omega arith)) e.3) d

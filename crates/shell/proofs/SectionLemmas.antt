@@ -16,7 +16,7 @@ use Rattle.shell.specs.TraceTexts.{Section, Line, Progress, add_line, add_lines,
 pub front_split : (text front rest : List ℕ) → bytes_eq (take (length front) text) front ≡ false → bytes_eq (front ++ rest) text ≡ false
 front_split text front rest h =
     false_from_ne_true _ (λ t. both_ways _ h ((bytes_eq-Decides (take (length front) text) front).1
-        (ap (take (length front)) (sym ((bytes_eq-Decides (front ++ rest) text).0 t)) ∙ take_at front rest (length front) refl)))
+    (ap (take (length front)) (sym ((bytes_eq-Decides (front ++ rest) text).0 t)) ∙ take_at front rest (length front) refl)))
 
 -- a common front makes no difference
 pub same_front : (front a b : List ℕ) → bytes_eq (front ++ a) (front ++ b) ≡ bytes_eq a b

@@ -32,13 +32,13 @@ read_more names s i items new n b at is put r =
     let next = drop_at_get names i n at in
     record {
       truths =
-        ap (λ xs. xs ++ map (truth_in s) (drop (i + 1) names)) put
-        ∙ (append_assoc items (b ∷ []) (map (truth_in s) (drop (i + 1) names))
-        ∙ (ap (λ o. items ++ unwrap_or o false ∷ map (truth_in s) (drop (i + 1) names)) is
-        ∙ (ap (λ xs. items ++ map (truth_in s) xs) (sym next) ∙ r.truths)));
+          ap (λ xs. xs ++ map (truth_in s) (drop (i + 1) names)) put
+          ∙ (append_assoc items (b ∷ []) (map (truth_in s) (drop (i + 1) names))
+          ∙ (ap (λ o. items ++ unwrap_or o false ∷ map (truth_in s) (drop (i + 1) names)) is
+          ∙ (ap (λ xs. items ++ map (truth_in s) xs) (sym next) ∙ r.truths)));
       lacks =
-        ap (λ o. cond (is_none o) (Some n) (find (lacks_in s) (drop (i + 1) names))) is
-        ∙ (ap (find (lacks_in s)) (sym next) ∙ r.lacks);
+          ap (λ o. cond (is_none o) (Some n) (find (lacks_in s) (drop (i + 1) names))) is
+          ∙ (ap (find (lacks_in s)) (sym next) ∙ r.lacks);
     }
 
 pub read_all : (names : List (List ℕ)) (s : Section) (i : ℕ) (items : List Bool) → length names ≡ i → ReadTo names s i items → (lacking names s ≡ None) × (items ≡ truths_of names s)
@@ -63,10 +63,10 @@ sections_more names all left rest s states new truths e (none, is) put r =
     record {
       gap = ap (λ o. gap_or s.line o (first_gap names rest)) (sym none) ∙ (ap (first_gap names) (sym e) ∙ r.gap);
       states =
-        ap (λ xs. xs ++ map (truths_of names) rest) put
-        ∙ (append_assoc states (truths ∷ []) (map (truths_of names) rest)
-        ∙ (ap (λ t. states ++ t ∷ map (truths_of names) rest) is
-        ∙ (ap (λ xs. states ++ map (truths_of names) xs) (sym e) ∙ r.states)));
+          ap (λ xs. xs ++ map (truths_of names) rest) put
+          ∙ (append_assoc states (truths ∷ []) (map (truths_of names) rest)
+          ∙ (ap (λ t. states ++ t ∷ map (truths_of names) rest) is
+          ∙ (ap (λ xs. states ++ map (truths_of names) xs) (sym e) ∙ r.states)));
     }
 
 pub sections_all : (names : List (List ℕ)) (all left : List Section) (states : List (List Bool)) → left ≡ [] → SectionsTo names all left states → (first_gap names all ≡ None) × (states ≡ map (truths_of names) all)
@@ -80,5 +80,6 @@ sections_gap names all left rest s states i e (within, lack) r =
     by_name : (o : Option (List ℕ)) → ((n : List ℕ) × (o ≡ Some n)) → gap_or s.line o (first_gap names rest) ≡ option_map (λ n. (s.line, n)) o
     by_name (Some n) h = refl
     by_name None (n, h) = absurd (none-some n h)
+
     slice_get-some : (xs : List (List ℕ)) (k : ℕ) → k < length xs → (n : List ℕ) × (slice_get xs k ≡ Some n)
     slice_get-some xs k h = (get_or xs k [], slice_get-get_or xs k [] h)

@@ -81,9 +81,13 @@ plain_value b f now later may (count p es) h k e = absurd (false≢true e)
 
 -- a plain constraint that is true holds, and one that is false does not
 pub holds_if_true : (b : Body) → PlainFacts b → (now later : List Bool) (may : Bool) (e : Tree) → length now ≡ length (names_of b.parts) → HasNext may (names_of b.parts) later → is_plain (names_of b.parts) may e ≡ true → truth_of (names_of b.parts) now later e ≡ true → Holds (b ∷ []) (at_state (map Truth now)) (at_state (map Truth later)) [] e
-holds_if_true b f now later may e h k p t =
-    (naming_of b (map Truth now), naming_of b (map Truth later), naming_is_right b f (map Truth now), naming_is_right b f (map Truth later),
-    plain_value b f now later may e h k p ∙ ap (λ v. Truth v ∷ []) t)
+holds_if_true b f now later may e h k p t = (
+  naming_of b (map Truth now),
+  naming_of b (map Truth later),
+  naming_is_right b f (map Truth now),
+  naming_is_right b f (map Truth later),
+  plain_value b f now later may e h k p ∙ ap (λ v. Truth v ∷ []) t,
+)
 
 pub fails_if_false : (b : Body) → PlainFacts b → (now later : List Bool) (may : Bool) (e : Tree) → length now ≡ length (names_of b.parts) → HasNext may (names_of b.parts) later → is_plain (names_of b.parts) may e ≡ true → truth_of (names_of b.parts) now later e ≡ false → Holds (b ∷ []) (at_state (map Truth now)) (at_state (map Truth later)) [] e → ⊥
 fails_if_false b f now later may e h k p t (n, l, right, right_later, v) =

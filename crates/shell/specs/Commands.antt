@@ -35,7 +35,7 @@ command_of_word word [] = if bytes_eq word (codes "quit") then quit else unknown
 command_of_word word (b ∷ rest) =
     if bytes_eq word (codes "execute_text_trace")
     then (if begins_with 45 (b ∷ rest) then unknown
-        else elim (without_front (behind_word (b ∷ rest))) [ [] ↦ execute (first_word (b ∷ rest)) | c ∷ more ↦ unknown ])
+    else elim (without_front (behind_word (b ∷ rest))) [ [] ↦ execute (first_word (b ∷ rest)) | c ∷ more ↦ unknown ])
     else unknown
 
 -- the command of a line without blanks at its front

@@ -144,8 +144,8 @@ abbrev pub Treats : ℕ → Result line.Line LineFault → World → List Event 
 Treats count (Ok line.TheVariants.End) old events new next = (events ≡ []) × KeepsSession old new × (next ≡ Stop 0)
 Treats count (Ok (line.TheVariants.Line text)) old events new next =
     MatchBool (count == 1000000)
-        ((events ≡ Refused refusal.TooManyLines ∷ []) × KeepsSession old new × (next ≡ Stop 3))
-        (Does old.state old.disk text events new.state new.disk next)
+    ((events ≡ Refused refusal.TooManyLines ∷ []) × KeepsSession old new × (next ≡ Stop 3))
+    (Does old.state old.disk text events new.state new.disk next)
 Treats count (Err line_fault.ReadFault) old events new next = (events ≡ Refused refusal.InputFailed ∷ []) × KeepsSession old new × (next ≡ Stop 3)
 Treats count (Err line_fault.TooLong) old events new next = (events ≡ Refused refusal.LineTooLong ∷ []) × KeepsSession old new × (next ≡ Stop 3)
 Treats count (Err (line_fault.NoMemory e)) old events new next = (events ≡ Refused refusal.NoMemory ∷ []) × KeepsSession old new × (next ≡ Stop 5)

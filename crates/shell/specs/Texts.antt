@@ -37,7 +37,7 @@ abbrev pub event_text : Event → List ℕ
 event_text (event.Executed n) = joined (codes "-- the trace is executed, states: " ∷ decimal n ∷ codes "\n" ∷ [])
 event_text (event.Stops n c) =
     joined (codes "-- the trace stops at state " ∷ decimal n ∷ codes ": " ∷ section_word c ∷ codes " at "
-        ∷ decimal (place_of c).line ∷ codes ":" ∷ decimal (place_of c).column ∷ codes "\n" ∷ [])
+    ∷ decimal (place_of c).line ∷ codes ":" ∷ decimal (place_of c).column ∷ codes "\n" ∷ [])
 event_text (event.Refused r) = refusal_text r
 event_text event.Usage = codes "usage: nusat [-int] [-source file] [model.smv] | nusat -gen n\n"
 

@@ -4,8 +4,7 @@ ghost use Rattle.shell.specs.Commands.{begins_with, behind_word, command_at, com
 ghost use Rattle.shell.specs.TraceTexts.{is_blank};
 ghost use Rattle.shell.specs.CommandViews.{view};
 
-use crate::lines::{is_blank, without_front};
-use crate::sections::equal;
+use crate::lines::{equal, is_blank, without_front};
 use outside::Text;
 use std::alloc::{AllocError, Global};
 
@@ -42,8 +41,7 @@ fn cut_word(line: &[u8]) -> (&[u8], &[u8])
 fn is_special(line: &[u8]) -> bool
     ensures { result ≡ list_any is_special line.now }
 {
-    line.iter()
-        .any(|byte| *byte == b'"' || *byte == b'#' || *byte == b'$' || *byte == b';')
+    line.iter().any(|byte| *byte == b'"' || *byte == b'#' || *byte == b'$' || *byte == b';')
 }
 
 /// Whether a text begins with a byte.

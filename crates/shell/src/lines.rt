@@ -1,5 +1,13 @@
 ghost use Rattle.std.specs.Prelude.{◌≡◌, ◌<◌, ◌==◌, ◌∷◌, [], length, position, IfSome, MatchOption};
+ghost use Rattle.std.specs.Str.{bytes_eq};
 ghost use Rattle.shell.specs.TraceTexts.{is_blank, lines_of, trimmed, without_end, without_front};
+
+/// Whether two texts are the same.
+pub(crate) fn equal(a: &[u8], b: &[u8]) -> bool
+    ensures { result ≡ bytes_eq a.now b.now }
+{
+    a == b
+}
 
 /// Whether a byte is a blank or a tab.
 pub(crate) fn is_blank(byte: u8) -> bool

@@ -1,10 +1,10 @@
 ghost use Rattle.std.specs.Prelude.{◌≡◌, ◌∷◌, [], true, false, map, IfOk, MatchOption, option_copied};
 ghost use Rattle.std.specs.List.{list_all};
-ghost use Rattle.std.specs.Str.{bytes_eq};
 ghost use Rattle.smv_tree.specs.Trees.{expr_tree};
 ghost use Rattle.smv_tree.specs.Models.{Body, bodies, part_of};
 ghost use Rattle.shell.specs.Plain.{is_declared, is_variable, is_plain, is_plain_part, is_plain_body, is_plain_program, program_names, names_of, are_distinct, declared_name};
 
+use crate::lines::equal;
 use crate::names::Names;
 use smv_tree::{Expr, Item, Kind, Name, Op1, Op2, Program, Section, Ty, TypeSyntax};
 use std::alloc::{AllocError, Global};
@@ -71,13 +71,6 @@ fn are_plain(items: &[Item], names: &Names) -> bool
         }
     }
     true
-}
-
-/// Whether two texts are the same.
-fn equal(a: &[u8], b: &[u8]) -> bool
-    ensures { result ≡ bytes_eq a.now b.now }
-{
-    a == b
 }
 
 /// The name that an item declares.

@@ -37,7 +37,7 @@ fn turn<R: Source, F: Files, O: Sink, E: Sink, L: Ledger>(
 ) -> Next
     ensures turns { (events : List Event) × (next : Next)
         × Turns count (world_of (state_of session.old) (disk_of (F.held files.old) (F.faults files.old)) (input_of (R.left input.old) (R.faults input.old)))
-            events (world_of (state_of session.new) (disk_of (F.held files.new) (F.faults files.new)) (input_of (R.left input.new) (R.faults input.new))) next
+        events (world_of (state_of session.new) (disk_of (F.held files.new) (F.faults files.new)) (input_of (R.left input.new) (R.faults input.new))) next
         × Told events next result (sinks_of (O.written out.old) (E.written err.old) (O.faults out.old) (E.faults err.old)) (sinks_of (O.written out.new) (E.written err.new) (O.faults out.new) (E.faults err.new)) }
     ensures out_count { O.faults out.old ≤ O.faults out.new }
     ensures err_count { E.faults err.old ≤ E.faults err.new }
@@ -48,17 +48,32 @@ fn turn<R: Source, F: Files, O: Sink, E: Sink, L: Ledger>(
         Ok(Line::End) => return Next::Stop(0),
         Ok(Line::Line(line)) => line,
         Err(LineFault::ReadFault) => {
-            return report(&Event::Refused(Refusal::InputFailed), Next::Stop(3), out, err);
+            return report(
+                &Event::Refused(Refusal::InputFailed),
+                Next::Stop(3),
+                out,
+                err,
+            );
         }
         Err(LineFault::TooLong) => {
-            return report(&Event::Refused(Refusal::LineTooLong), Next::Stop(3), out, err);
+            return report(
+                &Event::Refused(Refusal::LineTooLong),
+                Next::Stop(3),
+                out,
+                err,
+            );
         }
         Err(LineFault::NoMemory(_)) => {
             return report(&Event::Refused(Refusal::NoMemory), Next::Stop(5), out, err);
         }
     };
     if count == LINES {
-        return report(&Event::Refused(Refusal::TooManyLines), Next::Stop(3), out, err);
+        return report(
+            &Event::Refused(Refusal::TooManyLines),
+            Next::Stop(3),
+            out,
+            err,
+        );
     }
     session.step_line(&line, files, out, err, steps)
 }
@@ -105,7 +120,7 @@ fn turns<R: Source, F: Files, O: Sink, E: Sink, L: Ledger>(
 ) -> u8
     ensures runs { (events : List Event) × (state : State)
         × Runs 0 (world_of (state_of session.old) (disk_of (F.held files.old) (F.faults files.old)) (input_of (R.left input.old) (R.faults input.old)))
-            events (world_of state (disk_of (F.held files.new) (F.faults files.new)) (input_of (R.left input.new) (R.faults input.new))) result
+        events (world_of state (disk_of (F.held files.new) (F.faults files.new)) (input_of (R.left input.new) (R.faults input.new))) result
         × ToldAll events result (sinks_of (O.written out.old) (E.written err.old) (O.faults out.old) (E.faults err.old)) (sinks_of (O.written out.new) (E.written err.new) (O.faults out.new) (E.faults err.new)) }
     ensures steps { steps.new ≡ steps.old }
 {
@@ -142,7 +157,7 @@ fn run_on<R: Source, F: Files, O: Sink, E: Sink, L: Ledger>(
 ) -> u8
     ensures session { (events : List Event) × (state : State)
         × Opens (option_copied file.entry) (disk_of (F.held files.old) (F.faults files.old)) (input_of (R.left input.old) (R.faults input.old))
-            events (world_of state (disk_of (F.held files.new) (F.faults files.new)) (input_of (R.left input.new) (R.faults input.new))) result
+        events (world_of state (disk_of (F.held files.new) (F.faults files.new)) (input_of (R.left input.new) (R.faults input.new))) result
         × ToldAll events result (sinks_of (O.written out.old) (E.written err.old) (O.faults out.old) (E.faults err.old)) (sinks_of (O.written out.new) (E.written err.new) (O.faults out.new) (E.faults err.new)) }
     ensures steps { steps.new ≡ steps.old }
 {
@@ -171,7 +186,7 @@ pub fn run_shell<R: Source, F: Files, O: Sink, E: Sink, L: Ledger>(
     // What is written is the text of a session of these words, this input and these files.
     ensures session { (events : List Event) × (state : State)
         × SessionOf words.now (disk_of (F.held files.old) (F.faults files.old)) (input_of (R.left input.old) (R.faults input.old))
-            events (world_of state (disk_of (F.held files.new) (F.faults files.new)) (input_of (R.left input.new) (R.faults input.new))) result
+        events (world_of state (disk_of (F.held files.new) (F.faults files.new)) (input_of (R.left input.new) (R.faults input.new))) result
         × ToldAll events result (sinks_of (O.written out.old) (E.written err.old) (O.faults out.old) (E.faults err.old)) (sinks_of (O.written out.new) (E.written err.new) (O.faults out.new) (E.faults err.new)) }
     ensures steps { steps.new ≡ steps.old }
 {

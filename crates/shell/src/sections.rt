@@ -4,7 +4,7 @@ ghost use Rattle.std.specs.Str.{bytes_eq};
 ghost use Rattle.shell.specs.TraceTexts.{add_line, add_lines, add_statement, opened, section_text, statement_of, trimmed, unless_empty, value_of, within, without_suffix, IsTraceText, Section};
 ghost use Rattle.shell.specs.SectionViews.{AreRead, lines_left, progress_of, section_of, sections_in, size_left};
 
-use crate::lines::{cut_line, trimmed};
+use crate::lines::{cut_line, equal, trimmed};
 use crate::names::Names;
 use indexmap::IndexMap;
 use itoa::Buffer;
@@ -25,13 +25,6 @@ pub(crate) enum Reading {
     Within(Vec<Kept>, Kept),
 }
 
-/// Whether two texts are the same.
-pub(crate) fn equal(a: &[u8], b: &[u8]) -> bool
-    ensures { result ≡ bytes_eq a.now b.now }
-{
-    a == b
-}
-
 /// The text behind this front, if it has it.
 #[tactic(auto, using(crate::proofs::SectionLemmas::front_split))]
 fn behind<'a>(text: &'a [u8], front: &[u8]) -> Option<&'a [u8]>
@@ -41,7 +34,11 @@ fn behind<'a>(text: &'a [u8], front: &[u8]) -> Option<&'a [u8]>
         return None;
     }
     let (begin, rest) = text.split_at(front.len());
-    if equal(begin, front) { Some(rest) } else { None }
+    if equal(begin, front) {
+        Some(rest)
+    } else {
+        None
+    }
 }
 
 /// Whether a line begins the section of this number.
@@ -64,7 +61,11 @@ fn without_suffix<'a>(suffix: &[u8], line: &'a [u8]) -> Option<&'a [u8]>
     ensures { option_copied result ≡ without_suffix suffix.now line.now }
 {
     let (front, end) = line.split_at(line.len().saturating_sub(suffix.len()));
-    if equal(end, suffix) { Some(front) } else { None }
+    if equal(end, suffix) {
+        Some(front)
+    } else {
+        None
+    }
 }
 
 /// The name and the truth value that a line states.

@@ -16,35 +16,105 @@ fn refusal_pieces<'a>(refusal: &'a Refusal, line: &'a [u8]) -> [&'a [u8]; 9]
     ensures { flat_map (λ p. p.now) result ≡ refusal_text refusal.now }
 {
     match refusal {
-        Refusal::NotBuilt => [b"error 899: not built yet\n", b"", b"", b"", b"", b"", b"", b"", b""],
-        Refusal::NoValue(_, name) => [b"error 616: line ",
+        Refusal::NotBuilt => [
+            b"error 899: not built yet\n",
+            b"",
+            b"",
+            b"",
+            b"",
+            b"",
+            b"",
+            b"",
+            b"",
+        ],
+        Refusal::NoValue(_, name) => [
+            b"error 616: line ",
             line,
             b": no value for ",
             name.as_slice(),
-            b"\n", b"", b"", b"", b""],
-        Refusal::NoFile(name) => [b"error 646: ",
+            b"\n",
+            b"",
+            b"",
+            b"",
+            b"",
+        ],
+        Refusal::NoFile(name) => [
+            b"error 646: ",
             name.as_slice(),
             b": no such file\n",
             b"",
-            b"", b"", b"", b"", b""],
-        Refusal::FileFault(name) => [b"error 647: ", name.as_slice(), b": file fault\n", b"", b"", b"", b"", b"", b""],
-        Refusal::FileTooLong(name) => [b"error 648: ",
+            b"",
+            b"",
+            b"",
+            b"",
+            b"",
+        ],
+        Refusal::FileFault(name) => [
+            b"error 647: ",
+            name.as_slice(),
+            b": file fault\n",
+            b"",
+            b"",
+            b"",
+            b"",
+            b"",
+            b"",
+        ],
+        Refusal::FileTooLong(name) => [
+            b"error 648: ",
             name.as_slice(),
             b": longer than 4194304 bytes\n",
             b"",
-            b"", b"", b"", b"", b""],
-        Refusal::InputFailed => [b"error 801: the input failed\n", b"", b"", b"", b"", b"", b"", b"", b""],
-        Refusal::LineTooLong => [b"error 802: line longer than 65536 bytes\n",
             b"",
             b"",
             b"",
-            b"", b"", b"", b"", b""],
-        Refusal::TooManyLines => [b"error 803: more than 1000000 lines\n",
+            b"",
+            b"",
+        ],
+        Refusal::InputFailed => [
+            b"error 801: the input failed\n",
             b"",
             b"",
             b"",
-            b"", b"", b"", b"", b""],
-        Refusal::NoMemory => [b"error 900: out of memory\n", b"", b"", b"", b"", b"", b"", b"", b""],
+            b"",
+            b"",
+            b"",
+            b"",
+            b"",
+        ],
+        Refusal::LineTooLong => [
+            b"error 802: line longer than 65536 bytes\n",
+            b"",
+            b"",
+            b"",
+            b"",
+            b"",
+            b"",
+            b"",
+            b"",
+        ],
+        Refusal::TooManyLines => [
+            b"error 803: more than 1000000 lines\n",
+            b"",
+            b"",
+            b"",
+            b"",
+            b"",
+            b"",
+            b"",
+            b"",
+        ],
+        Refusal::NoMemory => [
+            b"error 900: out of memory\n",
+            b"",
+            b"",
+            b"",
+            b"",
+            b"",
+            b"",
+            b"",
+            b"",
+        ],
     }
 }
 
@@ -59,12 +129,7 @@ fn section_word(cause: &Cause) -> &[u8]
 }
 
 /// The parts of the text of an event, from its numbers as they are written.
-fn pieces<'a>(
-    event: &'a Event,
-    first: &'a [u8],
-    line: &'a [u8],
-    column: &'a [u8],
-) -> [&'a [u8]; 9]
+fn pieces<'a>(event: &'a Event, first: &'a [u8], line: &'a [u8], column: &'a [u8]) -> [&'a [u8]; 9]
     requires first { first.now ≡ decimal (first_number event.now) }
     requires line { line.now ≡ decimal (line_number event.now) }
     requires column { column.now ≡ decimal (column_number event.now) }
@@ -167,11 +232,7 @@ fn write<S: Sink>(event: &Event, out: &mut S) -> Result<(), Failed>
 ///
 /// `Failed` after a fault of the sink; a front of the text was written then.
 #[tactic(auto, using(crate::proofs::TellLemmas::told_out, crate::proofs::TellLemmas::told_err, crate::proofs::TellLemmas::broken_out, crate::proofs::TellLemmas::broken_err))]
-pub(crate) fn tell<O: Sink, E: Sink>(
-    event: &Event,
-    out: &mut O,
-    err: &mut E,
-) -> Result<(), Failed>
+pub(crate) fn tell<O: Sink, E: Sink>(event: &Event, out: &mut O, err: &mut E) -> Result<(), Failed>
     ensures ok { OnOk result (WritesAll (event.now ∷ []) (O.written out.old) (O.written out.new) (E.written err.old) (E.written err.new)) }
     ensures broken { OnErr result (WritesFront (event.now ∷ []) (O.written out.old) (O.written out.new) (E.written err.old) (E.written err.new)) }
     ensures cause { OnErr result ((HasRisen (O.faults out.old) (O.faults out.new)) ⊎ (HasRisen (E.faults err.old) (E.faults err.new))) }

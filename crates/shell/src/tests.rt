@@ -9,7 +9,8 @@ use step_count::Steps;
 
 const TOGGLE: &str = "MODULE main\nVAR x : boolean;\nINIT !x\nTRANS next(x) = !x\n";
 
-const TWO_STATES: &str = "-> State: 1.1 <-\nx = FALSE\n-> State: 1.2 <-\nx = TRUE\n-> State: 1.3 <-\n";
+const TWO_STATES: &str =
+    "-> State: 1.1 <-\nx = FALSE\n-> State: 1.2 <-\nx = TRUE\n-> State: 1.3 <-\n";
 
 fn text(alloc: Global, bytes: &str) -> Result<Text, AllocError> {
     Text::from_slice(alloc, bytes.as_bytes())
@@ -66,13 +67,55 @@ fn answers_lines(rt: HostRuntime) -> Result<(), AllocError> {
     let alloc = rt.alloc();
     let rows = [
         ("", "", "", 99, "0"),
-        ("-x", "", "", 99, "usage: nusat [-int] [-source file] [model.smv] | nusat -gen n\n2"),
-        ("m.smv", "x = FALSE\n", "execute_text_trace t", 99, "-- the trace is executed, states: 3\n0"),
-        ("m.smv", "x = TRUE\n", "execute_text_trace t", 99, "-- the trace stops at state 3: TRANS at 4:1\n0"),
-        ("m.smv", "", "execute_text_trace t", 99, "error 616: line 5: no value for x\n0"),
-        ("m.smv", "x = FALSE\n", "\n execute_text_trace u\nquit\nquit now", 99, "error 646: u: no such file\n0"),
-        ("m.smv", "x = 1\n", "execute_text_trace t\n", 99, "error 899: not built yet\n0"),
-        ("m.smv", "x = FALSE\n", "execute_text_trace t\nquit", 10, "-- the tra4"),
+        (
+            "-x",
+            "",
+            "",
+            99,
+            "usage: nusat [-int] [-source file] [model.smv] | nusat -gen n\n2",
+        ),
+        (
+            "m.smv",
+            "x = FALSE\n",
+            "execute_text_trace t",
+            99,
+            "-- the trace is executed, states: 3\n0",
+        ),
+        (
+            "m.smv",
+            "x = TRUE\n",
+            "execute_text_trace t",
+            99,
+            "-- the trace stops at state 3: TRANS at 4:1\n0",
+        ),
+        (
+            "m.smv",
+            "",
+            "execute_text_trace t",
+            99,
+            "error 616: line 5: no value for x\n0",
+        ),
+        (
+            "m.smv",
+            "x = FALSE\n",
+            "\n execute_text_trace u\nquit\nquit now",
+            99,
+            "error 646: u: no such file\n0",
+        ),
+        (
+            "m.smv",
+            "x = 1\n",
+            "execute_text_trace t\n",
+            99,
+            "error 899: not built yet\n0",
+        ),
+        (
+            "m.smv",
+            "x = FALSE\n",
+            "execute_text_trace t\nquit",
+            10,
+            "-- the tra4",
+        ),
     ];
     for (word, end, input, room, want) in rows {
         let mut trace = text(alloc, TWO_STATES)?;

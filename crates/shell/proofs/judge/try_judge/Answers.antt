@@ -25,7 +25,7 @@ returns c =
     let same_kept = c.as_slice.ensures.value in
     let same_held = c.as_slice-in-All.ensures.value in
     a_replay (bodies m.program) m.names c.args.text.now (map section_of kept) (map (λ s. s.items) held) c.replay.result m.named
-        (subst (λ ks. IsTraceText m.names c.args.text.now (map section_of ks)) (sym same_kept) found.0)
-        (subst (λ n. 0 < n) (sym (length-map kept section_of ∙ ap length same_kept)) found.1)
-        (given.0, ap (map (λ s. s.items)) same_held ∙ given.1)
-        r.0 r.1 r.2 (r.3 ∙ ap (λ n. event_of n (stop_of (names_of r.0.parts) r.0.parts (map (λ s. s.items) held))) (sym (length-map held (λ s. s.items))))
+    (subst (λ ks. IsTraceText m.names c.args.text.now (map section_of ks)) (sym same_kept) found.0)
+    (subst (λ n. 0 < n) (sym (length-map kept section_of ∙ ap length same_kept)) found.1)
+    (given.0, ap (map (λ s. s.items)) same_held ∙ given.1)
+    r.0 r.1 r.2 (r.3 ∙ ap (λ n. event_of n (stop_of (names_of r.0.parts) r.0.parts (map (λ s. s.items) held))) (sym (length-map held (λ s. s.items))))

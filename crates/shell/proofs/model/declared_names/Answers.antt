@@ -10,5 +10,5 @@ loop-item-preserved c =
     let added = rw c.if-not-branch.false at c.in_ok-insert.ensures.added in
     let is_new = rw c.if-not-branch.false at c.in_ok-insert.ensures.is_new in
     name_added c.loop-item.names c.insert.new.self c.as_slice.result.now (names_of (map part_of (drop (c.loop-item.item-index + 1) c.args.items.now))) (names_of (map part_of c.args.items.now)) added
-        (names_from c.loop-item.names c.args.items.now c.loop-item.item-index c.item-item.result c.as_slice.result.now (names_of (map part_of c.args.items.now)) c.loop-item-test.true c.item-item.is (ap Some c.as_slice.ensures.bytes ∙ c.in-Some.ensures) c.loop-item.invariant.0)
-        c.loop-item.invariant.1 is_new
+    (names_from c.loop-item.names c.args.items.now c.loop-item.item-index c.item-item.result c.as_slice.result.now (names_of (map part_of c.args.items.now)) c.loop-item-test.true c.item-item.is (ap Some c.as_slice.ensures.bytes ∙ c.in-Some.ensures) c.loop-item.invariant.0)
+    c.loop-item.invariant.1 is_new

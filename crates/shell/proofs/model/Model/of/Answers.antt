@@ -16,14 +16,14 @@ invariant_of-result c =
     let names : c.in-Some.names ≡ names_of (map part_of m.items.items) = found.0 ∙ ap (λ xs. names_of (map part_of xs)) items in
     let d : are_distinct (names_of (map part_of m.items.items)) ≡ true = ap are_distinct (sym names) ∙ found.1 in
     let l : list_all (is_plain_part (names_of (map part_of m.items.items))) (map part_of m.items.items) ≡ true =
-        ap (λ ns. list_all (is_plain_part ns) (map part_of m.items.items)) (sym names)
-        ∙ (ap (λ xs. list_all (is_plain_part c.in-Some.names) (map part_of xs)) (sym items) ∙ (sym c.are_plain.ensures ∙ c.if-not-are_plain.false)) in
+    ap (λ ns. list_all (is_plain_part ns) (map part_of m.items.items)) (sym names)
+    ∙ (ap (λ xs. list_all (is_plain_part c.in-Some.names) (map part_of xs)) (sym items) ∙ (sym c.are_plain.ensures ∙ c.if-not-are_plain.false)) in
     let one = list_of_one c.args.program.modules.items m (omega arith) (c.module-item.is ∙ ap (λ xs. get_or xs 0 m) c.as_slice.ensures.value) in
     let named : bytes_eq m.name (codes "main") ≡ true =
-        ap (λ n. bytes_eq n (codes "main")) (sym c.as_slice-2.ensures.bytes) ∙ (sym c.equal.ensures ∙ c.if-not-equal.false) in
+    ap (λ n. bytes_eq n (codes "main")) (sym c.as_slice-2.ensures.bytes) ∙ (sym c.equal.ensures ∙ c.if-not-equal.false) in
     let none : length m.params.items ≡ 0 =
-        ap length (sym c.as_slice-else-not-equal.ensures.value) ∙ eqb-true _ _ (sym c.is_empty.ensures ∙ c.if-not-is_empty.false) in
+    ap length (sym c.as_slice-else-not-equal.ensures.value) ∙ eqb-true _ _ (sym c.is_empty.ensures ∙ c.if-not-is_empty.false) in
     record {
-        named = names ∙ ap (λ ms. program_names (map body_of ms)) (sym one);
-        plain = ap (λ ms. is_plain_program (map body_of ms)) one ∙ plain_body (body_of m) named (is_empty-map formal_of m.params.items none) d l;
+      named = names ∙ ap (λ ms. program_names (map body_of ms)) (sym one);
+      plain = ap (λ ms. is_plain_program (map body_of ms)) one ∙ plain_body (body_of m) named (is_empty-map formal_of m.params.items none) d l;
     }

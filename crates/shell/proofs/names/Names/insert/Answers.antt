@@ -16,5 +16,5 @@ pub returns-clause-added : goal.returns-clause-added
 returns-clause-added c =
     let same = c.in_ok-from_slice.ensures.items in
     added_name (λ v. v.items) c.self.inside.names.keys c.insert.new.self.keys c.in_ok-from_slice.field-0 c.args.self.now c.self.view_is
-        (ap (λ n. list_any (λ x. bytes_eq n x.items) c.self.inside.names.keys) same ∙ sym c.if-contains.ensures) c.in_ok-insert.ensures.keys
+    (ap (λ n. list_any (λ x. bytes_eq n x.items) c.self.inside.names.keys) same ∙ sym c.if-contains.ensures) c.in_ok-insert.ensures.keys
     ∙ ap (λ n. c.args.self.now ++ n ∷ []) same

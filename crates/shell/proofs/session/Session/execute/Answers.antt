@@ -9,13 +9,13 @@ use Rattle.shell.proofs.session.Session.execute.Goals as goal
 pub returns-then-is_refusal : goal.returns-then-is_refusal
 returns-then-is_refusal g c =
     executed (state_of c.args.self.now) (disk_of (g.F.Files.held c.args.files.now) (g.F.Files.faults c.args.files.now)) (disk_of (g.F.Files.held c.load.new.files) (g.F.Files.faults c.load.new.files)) (disk_of (g.F.Files.held c.judge_file-event.new.files) (g.F.Files.faults c.judge_file-event.new.files))
-        c.in-Some-input_file.input c.args.file (bodies c.in-Ok.model.program) c.judge_file-event.result (state_of c.args.self.now)
-        (ap (option_map (λ m. bodies m.program)) c.in_default.is) c.in-Some-input_file.is c.in-Ok.ensures c.judge_file-event.ensures
-        (after_refusal (state_of c.args.self.now) (bodies c.in-Ok.model.program) c.judge_file-event.result (sym c.is_refusal.ensures ∙ c.if-is_refusal.true))
+    c.in-Some-input_file.input c.args.file (bodies c.in-Ok.model.program) c.judge_file-event.result (state_of c.args.self.now)
+    (ap (option_map (λ m. bodies m.program)) c.in_default.is) c.in-Some-input_file.is c.in-Ok.ensures c.judge_file-event.ensures
+    (after_refusal (state_of c.args.self.now) (bodies c.in-Ok.model.program) c.judge_file-event.result (sym c.is_refusal.ensures ∙ c.if-is_refusal.true))
 
 pub returns : goal.returns
 returns g c =
     executed (state_of c.args.self.now) (disk_of (g.F.Files.held c.args.files.now) (g.F.Files.faults c.args.files.now)) (disk_of (g.F.Files.held c.load.new.files) (g.F.Files.faults c.load.new.files)) (disk_of (g.F.Files.held c.judge_file-event.new.files) (g.F.Files.faults c.judge_file-event.new.files))
-        c.in-Some-input_file.input c.args.file (bodies c.in-Ok.model.program) c.judge_file-event.result _
-        (ap (option_map (λ m. bodies m.program)) c.in_default.is) c.in-Some-input_file.is c.in-Ok.ensures c.judge_file-event.ensures
-        (after_answer (state_of c.args.self.now) (bodies c.in-Ok.model.program) c.judge_file-event.result (sym c.is_refusal.ensures ∙ c.if-is_refusal.false))
+    c.in-Some-input_file.input c.args.file (bodies c.in-Ok.model.program) c.judge_file-event.result _
+    (ap (option_map (λ m. bodies m.program)) c.in_default.is) c.in-Some-input_file.is c.in-Ok.ensures c.judge_file-event.ensures
+    (after_answer (state_of c.args.self.now) (bodies c.in-Ok.model.program) c.judge_file-event.result (sym c.is_refusal.ensures ∙ c.if-is_refusal.false))
