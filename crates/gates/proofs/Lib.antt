@@ -1,0 +1,5 @@
+pub mod Growth
+pub mod Pairs
+pub mod Meaning
+pub mod Joins
+pub mod Evaluation

@@ -1,0 +1,5 @@
+pub mod Literal
+pub mod Codes
+pub mod Nodes
+pub mod Valuation
+pub mod Sharing
