@@ -1,3 +1,4 @@
+pub mod Number
 pub mod Told
 pub mod Lines
 pub mod Disk

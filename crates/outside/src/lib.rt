@@ -8,6 +8,8 @@
 
 mod files;
 mod memory;
+mod number;
+mod order;
 mod sink;
 mod source;
 #[cfg(test)]
@@ -16,6 +18,7 @@ mod text;
 
 pub use files::{FileFault, Files};
 pub use memory::{MemFiles, MemSink, MemSource};
+pub use number::{is_digit, read_number};
 pub use sink::{Sink, put_all, put_parts};
 pub use source::{Line, LineFault, Source, read_line};
 pub use text::{Text, Words};
