@@ -1,0 +1,13 @@
+pub mod Implied
+pub mod NeededFresh
+pub mod MarkLemmas
+pub mod Decided
+pub mod LogLemmas
+pub mod PutLemmas
+pub mod TextLemmas
+pub mod NumberLemmas
+pub mod PieceLemmas
+pub mod ReadLemmas
+pub mod PageLaws
+pub mod SplitLaws
+pub mod FaultLaws

@@ -1,0 +1,20 @@
+use Rattle.std.proofs.Common.{◌≡◌, ◌≤◌, [], refl, sym, subst}
+use Rattle.sat_log.specs.Marked.{Marked}
+use Rattle.sat_log.specs.Clause.{AreLiterals}
+use Rattle.sat_log.specs.Accepted.{Accepts}
+use Rattle.sat_log.specs.Checking.{IsUpTo}
+use Rattle.sat_log.proofs.LogLemmas.{accepted_follows, keeps_push}
+use Rattle.sat_log.proofs.log.Log.append.Goals as goal
+
+pub invariant_of-self-2 : goal.invariant_of-self-2
+invariant_of-self-2 c =
+    let log = c.self.inside in
+    let new = c.accepts_line.new.marks in
+    let same = sym c.accepts_line.ensures.marks in
+    let clear = subst (λ (m : Marked). m.set ≡ []) same c.make_room.ensures.clear in
+    let grows = subst (λ (m : Marked). log.marks.room ≤ m.room) same c.make_room.ensures.grows in
+    let room = subst (λ (m : Marked). c.last_variable.result ≤ m.room) same c.in_ok-make_room.ensures.ok in
+    let last = subst (IsUpTo c.last_variable.result) c.as_slice.ensures c.last_variable.ensures.last in
+    let literals = subst AreLiterals c.as_slice.ensures c.last_variable.ensures.literals in
+    let accepted = subst (λ lines. Accepts lines c.args.line) c.as_slice-2.ensures.value (c.if-not-accepts_line.ensures.answer.0 refl) in
+    rw c.in_ok-push.ensures.items (keeps_push log.lines.items c.args.line log.marks new c.last_variable.result c.self.invariant clear grows (accepted_follows _ _ literals c.requires accepted) last room)

@@ -1,0 +1,12 @@
+use Rattle.std.proofs.Common.{◌≡◌, length}
+use Rattle.std.specs.Prelude.{vec_capacity}
+use Rattle.sat_log.proofs.MarkLemmas.{Covers}
+use Rattle.sat_log.proofs.marks.Marks.clear.Given as goal
+
+abbrev pub invariant-loop-literal : goal.invariant-loop-literal
+invariant-loop-literal l =
+    Covers l.self-inside.room l.self-inside.truths.items l.self-inside.trail.items (vec_capacity l.self-inside.trail)
+    × (l.self-inside.room ≡ l.fn.self.room)
+
+abbrev pub decreases-loop-literal : goal.decreases-loop-literal
+decreases-loop-literal l = length l.self-inside.trail.items

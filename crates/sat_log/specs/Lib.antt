@@ -1,0 +1,13 @@
+pub mod Literal
+pub mod Clause
+pub mod Accepted
+pub mod Learned
+pub mod Marked
+pub mod Checking
+pub mod Kept
+pub mod Page
+pub mod LogText
+pub mod FaultText
+pub mod Answers
+pub mod Reading
+pub mod TextFault
