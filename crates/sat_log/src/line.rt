@@ -1,3 +1,6 @@
+ghost use Rattle.std.specs.Prelude.{◌≡◌};
+ghost use Rattle.sat_log.specs.Accepted.{is_given};
+
 use crate::{Ids, SLits};
 
 /// What a line of a log is.
@@ -18,4 +21,13 @@ pub struct LogLine {
     pub kind: LineKind,
     pub lits: SLits,
     pub hints: Ids,
+}
+
+impl LogLine {
+    /// Whether the line is a clause that was given.
+    pub fn is_original(&self) -> bool
+        ensures { result ≡ is_given self.now }
+    {
+        matches!(self.kind, LineKind::Original)
+    }
 }

@@ -1,9 +1,9 @@
-ghost use Rattle.std.specs.Prelude.{List, ◌⊎◌, ◌≡◌, ◌≢◌, ◌++◌, ◌∷◌, ◌↔◌, ◌≤◌, ◌<◌, ◌^◌, [], true, false, length, min, IsTrue, IfOk, IfErr, OnOk, OnErr};
+ghost use Rattle.std.specs.Prelude.{count_by, List, ◌⊎◌, ◌≡◌, ◌≢◌, ◌++◌, ◌∷◌, ◌↔◌, ◌≤◌, ◌<◌, ◌^◌, [], true, false, length, min, IsTrue, IfOk, IfErr, OnOk, OnErr};
 ghost use Rattle.std.specs.Option.{option_copied};
 ghost use Rattle.std.specs.Io.KnownBytes.{append_known};
 ghost use Rattle.outside.specs.Told.{HasRisen, AddsFront};
 ghost use Rattle.sat_log.specs.Clause.{HasDistinctVariables};
-ghost use Rattle.sat_log.specs.Accepted.{Accepts, IsLog, line_at};
+ghost use Rattle.sat_log.specs.Accepted.{Accepts, IsLog, is_given, line_at};
 ghost use Rattle.sat_log.specs.Checking.{IsUpTo, AreUpTo, accepts};
 ghost use Rattle.sat_log.specs.Kept.{original};
 ghost use Rattle.sat_log.specs.LogText.{text_of, IsTextOf};
@@ -202,6 +202,16 @@ impl Log {
         ensures log { IsLog self.now }
     {
         self.lines.len() as u64
+    }
+
+    /// How many lines are original clauses.
+    pub fn originals(&self) -> u64
+        ensures { result ≡ count_by is_given self.now }
+    {
+        self.lines
+            .iter()
+            .filter(|line| line.is_original())
+            .count() as u64
     }
 
     /// How long the text of the log is, or 18446744073709551615 if it is longer.

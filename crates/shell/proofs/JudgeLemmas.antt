@@ -14,7 +14,7 @@ use Rattle.shell.specs.Plain.{is_plain_body, is_plain_program, program_names, na
 use Rattle.shell.specs.Evaluation.{stop_of}
 use Rattle.shell.specs.Stops.{event_of}
 use Rattle.shell.specs.TraceTexts.{Section, IsTraceText, first_gap, truths_of, states_of}
-use Rattle.shell.specs.Sessions.{Judges}
+use Rattle.shell.specs.ExecuteTrace.{Judges}
 use Rattle.shell.proofs.MainLemmas.{plain_facts}
 use Rattle.shell.proofs.RunLemmas.{AreFull, Judged, judged}
 

@@ -20,7 +20,8 @@ use Rattle.smv_meaning.specs.Names.{Target, to_variable, to_body, to_instance, t
 use Rattle.smv_meaning.specs.Values.{Naming, Moment, IsNaming, values, variable_values, value_at, state_variables, input_variables, target_values}
 use Rattle.smv_meaning.specs.Runs.{at_state}
 use Rattle.shell.specs.Plain.{is_plain, is_plain_part, is_declared, is_variable, is_empty, names_of}
-use Rattle.shell.specs.Evaluation.{bool_at, truth_of, same_truth}
+use Rattle.std.proofs.Math.Bool.{beq}
+use Rattle.shell.specs.Evaluation.{bool_at, truth_of}
 use Rattle.shell.proofs.PlainLemmas.{bytes_eq-flip, bytes_eq-other}
 use Rattle.shell.proofs.MainLemmas.{PlainFacts, main_of, variable_named, the_instances, the_variables}
 

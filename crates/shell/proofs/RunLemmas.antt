@@ -18,7 +18,8 @@ use Rattle.smv_meaning.specs.Runs.{AreLegal, IsState, IsInput, AsksFirst, AsksEa
 use Rattle.shell.specs.declared.event.Cause.{Cause}
 use Rattle.shell.specs.declared.event.Cause.TheVariants.{Init, Trans}
 use Rattle.shell.specs.Plain.{is_plain, is_plain_part, names_of}
-use Rattle.shell.specs.Evaluation.{truth_of, init_cause, step_cause, first_init, first_step, or_first, at_number, stop_behind, stop_of}
+use Rattle.std.specs.Option.{option_or}
+use Rattle.shell.specs.Evaluation.{truth_of, init_cause, step_cause, first_init, first_step, at_number, stop_behind, stop_of}
 use Rattle.shell.specs.Replays.{FailsFirst, IsTrace, StopsAt}
 use Rattle.shell.proofs.MainLemmas.{PlainFacts, main_of, variable_named, the_instances, the_variables}
 use Rattle.shell.proofs.NamingLemmas.{named_states}
@@ -39,14 +40,14 @@ pub data Finds (asks : Part → Type 0) (cause : Part → Option Cause) (parts :
 
 -- one more part in front
 finds_more : (asks : Part → Type 0) (cause : Part → Option Cause) (part : Part) (parts : List Part) (rest : Option Cause)
-    → (cause part ≡ None → asks part) → ((c : Cause) → cause part ≡ Some c → asks part → ⊥) → Finds asks cause parts rest → Finds asks cause (part ∷ parts) (or_first (cause part) rest)
+    → (cause part ≡ None → asks part) → ((c : Cause) → cause part ≡ Some c → asks part → ⊥) → Finds asks cause parts rest → Finds asks cause (part ∷ parts) (option_or (cause part) rest)
 finds_more asks cause part parts rest when_asked when_not found = by_cause (cause part) refl
   where
     after : (o : Option Cause) → asks part → Finds asks cause parts o → Finds asks cause (part ∷ parts) o
     after None a (finds_none all) = finds_none (a, all)
     after (Some c) a (finds _ q (before, others, e, holds, fails) is) = finds c q (part ∷ before, others, ap (λ ps. part ∷ ps) e, (a, holds), fails) is
 
-    by_cause : (o : Option Cause) → cause part ≡ o → Finds asks cause (part ∷ parts) (or_first o rest)
+    by_cause : (o : Option Cause) → cause part ≡ o → Finds asks cause (part ∷ parts) (option_or o rest)
     by_cause (Some c) h = finds c part ([], parts, refl, tt, when_not c h) h
     by_cause None h = after rest (when_asked h) found
 
@@ -246,7 +247,7 @@ behind_is b f n s (t ∷ states) full =
     onwards None st p = (allowed b f s full.0, st, p)
     onwards (Some stop) st p = breaks_later b f n s t states stop.0 stop.1 (allowed b f s full.0) st p
 
-    by_cause : (o : Option Cause) → Finds (AsksStep (b ∷ []) (at_state (map Truth s)) (at_state (map Truth t)) (main_of b)) (step_cause names s t) b.parts o → (rest : Option (ℕ × Cause)) → Behind b (n + 1) (t ∷ states) rest → Behind b n (s ∷ t ∷ states) (or_first (at_number (n + 1) o) rest)
+    by_cause : (o : Option Cause) → Finds (AsksStep (b ∷ []) (at_state (map Truth s)) (at_state (map Truth t)) (main_of b)) (step_cause names s t) b.parts o → (rest : Option (ℕ × Cause)) → Behind b (n + 1) (t ∷ states) rest → Behind b n (s ∷ t ∷ states) (option_or (at_number (n + 1) o) rest)
     by_cause None (finds_none all) rest p = onwards rest (stepped b f s t all) p
     by_cause (Some c) (finds _ part bad is) rest p =
         let q = step_cause_is names s t part c is in
@@ -301,7 +302,7 @@ judged b f (s ∷ states) h full =
           subst (λ ys. IsPath (b ∷ []) (map Truth x) ys (map (λ _. []) ys)) (map-append (map Truth) front (u ∷ [])) p,
         )
 
-    by_cause : (o : Option Cause) → Finds (AsksFirst (b ∷ []) (at_state (map Truth s)) (main_of b)) (init_cause (names_of b.parts) s) b.parts o → (rest : Option (ℕ × Cause)) → Behind b 1 (s ∷ states) rest → Judged b (s ∷ states) (or_first (at_number 1 o) rest)
+    by_cause : (o : Option Cause) → Finds (AsksFirst (b ∷ []) (at_state (map Truth s)) (main_of b)) (init_cause (names_of b.parts) s) b.parts o → (rest : Option (ℕ × Cause)) → Behind b 1 (s ∷ states) rest → Judged b (s ∷ states) (option_or (at_number 1 o) rest)
     by_cause None (finds_none all) rest p = onwards rest (asked_of_main b f (AsksFirst (b ∷ []) (at_state (map Truth s))) all) p
     by_cause (Some c) (finds _ part bad is) rest p =
         let q = init_cause_is (names_of b.parts) s part c is in

@@ -6,7 +6,7 @@ use Rattle.outside.specs.declared.source.LineFault.{LineFault}
 use Rattle.outside.specs.declared.source.LineFault.TheVariants as line_fault
 use Rattle.shell.specs.declared.event.Event.TheVariants.{Refused}
 use Rattle.shell.specs.declared.event.Refusal.TheVariants as refusal
-use Rattle.shell.specs.Commands.{Command, nothing, quit, execute, unknown, command_of}
+use Rattle.shell.specs.Commands.{Command, nothing, quit, execute, check_log, unknown, command_of}
 use Rattle.std.specs.Io.KnownBytes.{append_known}
 use Rattle.outside.specs.Told.{HasRisen, AddsFront}
 use Rattle.outside.proofs.ToldLemmas.{append_known-twice}
@@ -17,7 +17,9 @@ use Rattle.shell.specs.declared.next.Next.{Next}
 use Rattle.shell.specs.declared.next.Next.TheVariants.{Go, Stop}
 use Rattle.shell.specs.Texts.{output_of, errors_of, event_text, is_output}
 use Rattle.shell.proofs.TellLemmas.{nothing_added}
-use Rattle.shell.specs.Sessions.{World, Disk, Input, Asked, asked_by, Session, SessionAsked, Does, DoesCommand, KeepsSession, Treats, Turns, Runs, ends, breaks, goes_on, Sinks, SinkFailed, Told, ToldAll, WritesAll, WritesFront}
+use Rattle.shell.specs.Worlds.{World, Disk, Input, KeepsSession}
+use Rattle.shell.specs.Sessions.{Asked, asked_by, Session, SessionAsked, Does, DoesCommand, Treats, Turns, Runs, ends, breaks, goes_on}
+use Rattle.shell.specs.Written.{Sinks, SinkFailed, Told, ToldAll, WritesAll, WritesFront}
 
 -- the turns so far: their events were told, and whatever follows them follows the start
 pub record SoFar (start now : World) (sinks sinks' : Sinks) (count : ℕ) : Type 0 where
@@ -123,6 +125,7 @@ so_far_end start now new a b c count es next status so turns told =
             by_command quit d = of_status 0 (λ f. absurd (omega arith)) d.3
             by_command unknown d = absurd (not_go n d.3)
             by_command (execute file) d = absurd (not_go n d.3)
+            by_command (check_log file) d = absurd (not_go n d.4)
 
             by_limit : (b : Bool) → MatchBool b ((xs ≡ Refused refusal.TooManyLines ∷ []) × KeepsSession old w × (Stop n ≡ Stop 3)) (Does old.state old.disk text xs w.state w.disk (Stop n)) → n ≢ 4
             by_limit true d = of_status 3 (λ f. absurd (omega arith)) d.2

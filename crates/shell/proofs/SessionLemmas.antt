@@ -6,7 +6,10 @@ use Rattle.shell.specs.declared.event.Event.{Event}
 use Rattle.shell.specs.declared.event.Refusal.{Refusal}
 use Rattle.shell.specs.declared.next.Next.{Next}
 use Rattle.shell.specs.Commands.{Command, command_of}
-use Rattle.shell.specs.Sessions.{State, Disk, Does, DoesCommand, Sinks, Told, Executes, Loads, LoadsNamed, LoadsFile, Tells, after_event, is_refusal}
+use Rattle.shell.specs.Worlds.{State, Disk}
+use Rattle.shell.specs.ExecuteTrace.{Executes, Loads, LoadsNamed, LoadsFile, Tells, after_event, is_refusal}
+use Rattle.shell.specs.Sessions.{Does, DoesCommand}
+use Rattle.shell.specs.Written.{Sinks, Told}
 
 -- the model is loaded where none is kept
 loaded : (kept : Option (List Body)) (named : Option (List ℕ)) (input : List ℕ) (disk mid : Disk) (r : Result (List Body) Refusal) → kept ≡ None → named ≡ Some input → LoadsFile input disk r mid → Loads kept named disk r mid

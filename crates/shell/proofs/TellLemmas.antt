@@ -7,7 +7,7 @@ use Rattle.outside.specs.Told.{AddsFront}
 use Rattle.shell.specs.declared.event.Event.{Event}
 use Rattle.shell.specs.Texts.{event_text, is_output, output_of, errors_of}
 use Rattle.shell.specs.declared.next.Next.{Next}
-use Rattle.shell.specs.Sessions.{Sinks, Told, WritesAll, WritesFront}
+use Rattle.shell.specs.Written.{Sinks, Told, WritesAll, WritesFront}
 
 -- nothing was added
 pub nothing_added : (told : Option (List ℕ)) → told ≡ append_known told []

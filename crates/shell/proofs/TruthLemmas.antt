@@ -12,7 +12,8 @@ use Rattle.smv_meaning.specs.Operators.{one_value, two_values, same_value}
 use Rattle.smv_meaning.specs.Values.{Naming, IsNaming, values, on_one, on_both}
 use Rattle.smv_meaning.specs.Runs.{Holds, at_state}
 use Rattle.shell.specs.Plain.{is_plain, is_declared, is_variable, names_of}
-use Rattle.shell.specs.Evaluation.{bool_at, truth_of, same_truth}
+use Rattle.std.proofs.Math.Bool.{beq}
+use Rattle.shell.specs.Evaluation.{bool_at, truth_of}
 use Rattle.shell.proofs.MainLemmas.{PlainFacts}
 use Rattle.shell.proofs.NamingLemmas.{naming_of, naming_is_right, naming_is_only, name_value}
 
@@ -39,7 +40,7 @@ variable_value b f bools (widen p r x n) later h e = absurd (false≢true e)
 variable_value b f bools (const p s v n) later h e = absurd (false≢true e)
 variable_value b f bools (count p es) later h e = absurd (false≢true e)
 
-same_value-truth : (x y : Bool) → same_value (Truth x) (Truth y) ≡ same_truth x y
+same_value-truth : (x y : Bool) → same_value (Truth x) (Truth y) ≡ beq x y
 same_value-truth true true = refl
 same_value-truth true false = refl
 same_value-truth false true = refl

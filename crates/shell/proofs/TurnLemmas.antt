@@ -7,7 +7,9 @@ use Rattle.outside.specs.declared.source.Line.{Line}
 use Rattle.outside.specs.declared.source.LineFault.{LineFault}
 use Rattle.shell.specs.declared.event.Event.{Event}
 use Rattle.shell.specs.declared.next.Next.{Next}
-use Rattle.shell.specs.Sessions.{World, Turns, Treats, Sinks, Told}
+use Rattle.shell.specs.Worlds.{World}
+use Rattle.shell.specs.Sessions.{Turns, Treats}
+use Rattle.shell.specs.Written.{Sinks, Told}
 
 -- what was read and how it was treated are a turn
 pub turned : (count : ℕ) (r : Result Line LineFault) (old new : World) (events : List Event) (next result : Next) (sinks sinks' : Sinks) → Reads 65536 old.input.left r new.input.left → HasCause old.input.faults new.input.faults r → Treats count r old events new next → Told events next result sinks sinks'

@@ -27,16 +27,22 @@ pub data Command : Type 0 where
   quit : Command
   -- replay the trace of this file
   execute : List ℕ → Command
+  -- check the log in this file
+  check_log : List ℕ → Command
   unknown : Command
+
+-- the command of a word and a file
+abbrev pub command_on_file : List ℕ → List ℕ → Command
+command_on_file word file =
+    if bytes_eq word (codes "execute_text_trace") then execute file
+    else (if bytes_eq word (codes "check_log") then check_log file else unknown)
 
 -- the command of a word and of what stands behind it without blanks at its front
 abbrev pub command_of_word : List ℕ → List ℕ → Command
 command_of_word word [] = if bytes_eq word (codes "quit") then quit else unknown
 command_of_word word (b ∷ rest) =
-    if bytes_eq word (codes "execute_text_trace")
-    then (if begins_with 45 (b ∷ rest) then unknown
-    else elim (without_front (behind_word (b ∷ rest))) [ [] ↦ execute (first_word (b ∷ rest)) | c ∷ more ↦ unknown ])
-    else unknown
+    if begins_with 45 (b ∷ rest) then unknown
+    else elim (without_front (behind_word (b ∷ rest))) [ [] ↦ command_on_file word (first_word (b ∷ rest)) | c ∷ more ↦ unknown ]
 
 -- the command of a line without blanks at its front
 abbrev pub command_at : List ℕ → Command

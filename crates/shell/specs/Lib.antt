@@ -4,7 +4,12 @@ pub mod TraceTexts
 pub mod Replays
 pub mod Texts
 pub mod Commands
+pub mod Worlds
+pub mod FileReads
+pub mod ExecuteTrace
+pub mod CheckLog
 pub mod Sessions
+pub mod Written
 pub mod SectionViews
 pub mod StateViews
 pub mod CommandViews

@@ -1,21 +1,36 @@
 -- The numbers in the text of an event.
 use Rattle.std.specs.Prelude.{ℕ}
+use Rattle.sat_log.specs.declared.fault.LogFault.{LogFault}
+use Rattle.sat_log.specs.declared.fault.LogFault.TheVariants as log_fault
 use Rattle.shell.specs.declared.event.Refusal.TheVariants as refusal
 use Rattle.shell.specs.declared.event.Event.{Event}
 use Rattle.shell.specs.declared.event.Event.TheVariants as event
 use Rattle.shell.specs.Texts.{place_of}
 
+-- the line or the clause at which a log has a fault
+abbrev pub fault_place : LogFault → ℕ
+fault_place (log_fault.BadNumber line) = line
+fault_place (log_fault.MissingZero line) = line
+fault_place (log_fault.BadHint line) = line
+fault_place (log_fault.NotAccepted id) = id
+fault_place log_fault.Truncated = 0
+fault_place (log_fault.NoMemory e) = 0
+
 abbrev pub first_number : Event → ℕ
 first_number (event.Executed n) = n
 first_number (event.Stops n c) = n
 first_number (event.Refused (refusal.NoValue line name)) = line
+first_number (event.Refused (refusal.FileTooLong name limit)) = limit
+first_number (event.Refused (refusal.BadLog fault)) = fault_place fault
+first_number (event.LogAccepted given learned) = given
 first_number _ = 0
 
--- the line and the column of a cause
-abbrev pub line_number : Event → ℕ
-line_number (event.Stops n c) = (place_of c).line
-line_number _ = 0
+-- the second and the third number
+abbrev pub second_number : Event → ℕ
+second_number (event.Stops n c) = (place_of c).line
+second_number (event.LogAccepted given learned) = learned
+second_number _ = 0
 
-abbrev pub column_number : Event → ℕ
-column_number (event.Stops n c) = (place_of c).column
-column_number _ = 0
+abbrev pub third_number : Event → ℕ
+third_number (event.Stops n c) = (place_of c).column
+third_number _ = 0

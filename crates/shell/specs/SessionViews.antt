@@ -5,7 +5,7 @@ use Rattle.smv_tree.specs.Models.{Body, bodies}
 use Rattle.shell.specs.declared.event.Refusal.{Refusal}
 use Rattle.shell.specs.declared.model.Model.{Model}
 use Rattle.shell.specs.declared.session.Session.{Session}
-use Rattle.shell.specs.Sessions.{State}
+use Rattle.shell.specs.Worlds.{State}
 
 -- the program of a model, or the refusal
 abbrev pub program_of : Result Model Refusal → Result (List Body) Refusal

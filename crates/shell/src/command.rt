@@ -1,6 +1,6 @@
 ghost use Rattle.std.specs.Prelude.{◌≡◌, position, IfOk};
 ghost use Rattle.std.specs.List.{list_any};
-ghost use Rattle.shell.specs.Commands.{begins_with, behind_word, command_at, command_of, command_of_word, first_word, is_special};
+ghost use Rattle.shell.specs.Commands.{begins_with, behind_word, command_at, command_of, command_of_word, command_on_file, first_word, is_special};
 ghost use Rattle.shell.specs.TraceTexts.{is_blank};
 ghost use Rattle.shell.specs.CommandViews.{view};
 
@@ -15,6 +15,8 @@ pub(crate) enum Command {
     Quit,
     /// Replay the trace of this file.
     Execute(Text),
+    /// Check the log in this file.
+    CheckLog(Text),
     /// Something that is not built yet.
     Unknown,
 }
@@ -54,6 +56,19 @@ pub(crate) fn begins_with(byte: u8, text: &[u8]) -> bool
     }
 }
 
+/// The command of a word and a file.
+fn command_on_file(word: &[u8], file: Text) -> Command
+    ensures { view result ≡ command_on_file word.now file }
+{
+    if equal(word, b"execute_text_trace") {
+        Command::Execute(file)
+    } else if equal(word, b"check_log") {
+        Command::CheckLog(file)
+    } else {
+        Command::Unknown
+    }
+}
+
 /// The command of a word, and of what stands behind it.
 fn command_of_word(alloc: Global, word: &[u8], rest: &[u8]) -> Result<Command, AllocError>
     ensures { IfOk result (λ c. view c ≡ command_of_word word.now rest.now) }
@@ -65,14 +80,14 @@ fn command_of_word(alloc: Global, word: &[u8], rest: &[u8]) -> Result<Command, A
             Command::Unknown
         });
     }
-    if !equal(word, b"execute_text_trace") || begins_with(b'-', rest) {
+    if begins_with(b'-', rest) {
         return Ok(Command::Unknown);
     }
     let (file, more) = cut_word(rest);
     if !without_front(more).is_empty() {
         return Ok(Command::Unknown);
     }
-    Ok(Command::Execute(Text::from_slice(alloc, file)?))
+    Ok(command_on_file(word, Text::from_slice(alloc, file)?))
 }
 
 impl Command {

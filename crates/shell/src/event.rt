@@ -1,4 +1,5 @@
 use outside::Text;
+use sat_log::LogFault;
 use smv_tree::Place;
 
 /// The constraint at which a replay stops, by the place of its section word.
@@ -15,12 +16,14 @@ pub enum Refusal {
     NotBuilt,
     /// A section of a trace lacks a value: the line of the section, and the name.
     NoValue(u64, Text),
+    /// The file has no log.
+    BadLog(LogFault),
     /// No file has this name.
     NoFile(Text),
     /// The file store failed at this file.
     FileFault(Text),
-    /// The file is longer than a model, a trace or a script may be.
-    FileTooLong(Text),
+    /// The file is longer than the number of bytes that it may have.
+    FileTooLong(Text, u64),
     /// The input failed.
     InputFailed,
     /// A line of input is too long.
@@ -37,6 +40,8 @@ pub enum Event {
     Executed(u64),
     /// The trace is no run: the state, from 1, at which its replay stops, and the cause.
     Stops(u64, Cause),
+    /// The log is accepted: how many of its lines are originals, and how many are others.
+    LogAccepted(u64, u64),
     Refused(Refusal),
     /// The words of the program are not of its form.
     Usage,

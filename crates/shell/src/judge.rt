@@ -3,7 +3,7 @@ ghost use Rattle.smv_tree.specs.Models.{Body, bodies};
 ghost use Rattle.shell.specs.Plain.{is_plain_body, names_of};
 ghost use Rattle.shell.specs.Evaluation.{stop_of};
 ghost use Rattle.shell.specs.Stops.{event_of};
-ghost use Rattle.shell.specs.Sessions.{Judges};
+ghost use Rattle.shell.specs.ExecuteTrace.{Judges};
 
 use crate::event::{Event, Refusal};
 use crate::model::Model;

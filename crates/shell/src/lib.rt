@@ -1,8 +1,11 @@
 #![tactic(auto)]
 //! The session of the shell, and the call that does all that the program does.
 
+mod check_log;
 mod command;
 mod event;
+mod execute;
+mod files;
 mod judge;
 mod lines;
 mod model;

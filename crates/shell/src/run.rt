@@ -1,7 +1,9 @@
 ghost use Rattle.std.specs.Prelude.{◌≡◌, ◌≢◌, ◌≤◌, ◌⊎◌, ◌∷◌, [], List, IfOk, None};
 ghost use Rattle.shell.specs.declared.event.Event.{Event};
 ghost use Rattle.shell.specs.declared.next.Next.{Next};
-ghost use Rattle.shell.specs.Sessions.{asked_by, Opens, Runs, State, Told, ToldAll, Turns, disk_of, input_of, sinks_of, world_of};
+ghost use Rattle.shell.specs.Worlds.{State, disk_of, input_of, world_of};
+ghost use Rattle.shell.specs.Sessions.{asked_by, Opens, Runs, Turns};
+ghost use Rattle.shell.specs.Written.{Told, ToldAll, sinks_of};
 ghost use Rattle.shell.specs.Sessions.{Session as SessionOf};
 ghost use Rattle.std.specs.Option.{option_copied};
 ghost use Rattle.shell.specs.SessionViews.{state_of};

@@ -1,25 +1,23 @@
-ghost use Rattle.std.specs.Prelude.{◌≡◌, ◌≤◌, ◌⊎◌, ◌∷◌, [], List, IfOk, IfErr, None, Some, Ok, Err, length};
-ghost use Rattle.outside.specs.declared.files.FileFault.{FileFault};
+ghost use Rattle.std.specs.Prelude.{◌≡◌, ◌≤◌, ◌∷◌, [], List, IfOk, None, Some};
 ghost use Rattle.shell.specs.declared.event.Event.{Event};
 ghost use Rattle.shell.specs.declared.next.Next.{Next};
-ghost use Rattle.shell.specs.Sessions.{file_refusal, is_refusal, sinks_of, Does, Executes, LoadsFile, ModelOf, Told, Tells, ReadsWhole, disk_of};
-ghost use Rattle.shell.specs.SessionViews.{program_of, state_of};
-ghost use Rattle.smv_tree.specs.Models.{bodies};
+ghost use Rattle.shell.specs.ExecuteTrace.{is_refusal, Executes};
+ghost use Rattle.shell.specs.Sessions.{Does};
+ghost use Rattle.shell.specs.SessionViews.{state_of};
+ghost use Rattle.shell.specs.Worlds.{disk_of};
+ghost use Rattle.shell.specs.Written.{sinks_of, Told};
 
+use crate::check_log::check_log;
 use crate::command::Command;
 use crate::event::{Event, Refusal};
-use crate::judge::judge;
+use crate::execute::{judge_file, load};
 use crate::model::Model;
 use crate::next::Next;
 use crate::tell::tell;
-use outside::{FileFault, Files, Sink, Text};
-use smv_parse::{ParseFault, parse_model};
+use outside::{Files, Sink, Text};
 use std::alloc::{AllocError, Global};
 use std::sync::ledger::Ledger;
 use step_count::Steps;
-
-/// A model, a trace or a script has at most so many bytes.
-const FILE_LIMIT: usize = 4_194_304;
 
 /// A session of the shell: what its commands leave behind.
 #[derive(Drop)]
@@ -27,69 +25,6 @@ pub struct Session {
     alloc: Global,
     input_file: Option<Text>,
     model: Option<Model>,
-}
-
-/// The refusal of a file that was not read.
-fn file_refusal(name: Text, fault: FileFault) -> Refusal
-    ensures { result ≡ file_refusal name fault }
-{
-    match fault {
-        FileFault::NotThere => Refusal::NoFile(name),
-        FileFault::TooLong(_) => Refusal::FileTooLong(name),
-        FileFault::Failed => Refusal::FileFault(name),
-        FileFault::NoMemory(_) => Refusal::NoMemory,
-    }
-}
-
-/// The model that a text is, or the refusal.
-fn model_of(alloc: Global, text: &[u8]) -> Result<Model, Refusal>
-    requires { length text.now ≤ 4194304 }
-    ensures { ModelOf text.now (program_of result) }
-{
-    let program = match parse_model(alloc, text) {
-        Ok(program) => program,
-        Err(ParseFault::Refused) => return Err(Refusal::NotBuilt),
-        Err(ParseFault::NoMemory(_)) => return Err(Refusal::NoMemory),
-    };
-    match Model::of(alloc, program) {
-        Ok(Some(model)) => Ok(model),
-        Ok(None) => Err(Refusal::NotBuilt),
-        Err(AllocError) => Err(Refusal::NoMemory),
-    }
-}
-
-/// The bytes of a whole file, or the refusal.
-fn read_file<F: Files>(alloc: Global, name: Text, files: &mut F) -> Result<Text, Refusal>
-    ensures whole { IfOk result (λ text. ReadsWhole name (disk_of (F.held files.old) (F.faults files.old)) (Ok text) (disk_of (F.held files.new) (F.faults files.new))) }
-    ensures fault { IfErr result (λ r. (fault : FileFault) × ReadsWhole name (disk_of (F.held files.old) (F.faults files.old)) (Err fault) (disk_of (F.held files.new) (F.faults files.new)) × (r ≡ file_refusal name fault)) }
-{
-    match files.read_all(alloc, &name, FILE_LIMIT) {
-        Ok(text) => Ok(text),
-        Err(fault) => Err(file_refusal(name, fault)),
-    }
-}
-
-/// The model of a file, or why there is none.
-fn load<F: Files>(alloc: Global, file: &Text, files: &mut F) -> Result<Model, Refusal>
-    ensures { LoadsFile file.now (disk_of (F.held files.old) (F.faults files.old)) (program_of result) (disk_of (F.held files.new) (F.faults files.new)) }
-{
-    let Ok(name) = file.copy(alloc) else {
-        return Err(Refusal::NoMemory);
-    };
-    match read_file(alloc, name, files) {
-        Ok(text) => model_of(alloc, text.as_slice()),
-        Err(refusal) => Err(refusal),
-    }
-}
-
-/// What is said of a trace's file.
-fn judge_file<F: Files>(alloc: Global, model: &Model, file: Text, files: &mut F) -> Event
-    ensures { Tells (bodies model.now.program) file (disk_of (F.held files.old) (F.faults files.old)) result (disk_of (F.held files.new) (F.faults files.new)) }
-{
-    match read_file(alloc, file, files) {
-        Ok(text) => judge(alloc, model, text.as_slice()),
-        Err(refusal) => Event::Refused(refusal),
-    }
 }
 
 /// Whether an event is a refusal.
@@ -177,15 +112,20 @@ impl Session {
         let Ok(command) = Command::of(self.alloc, line.as_slice()) else {
             return report(&Event::Refused(Refusal::NoMemory), Next::Stop(5), out, err);
         };
-        let file = match command {
+        match command {
             Command::Nothing => return Next::Go,
             Command::Quit => return Next::Stop(0),
             Command::Unknown => {
                 return report(&Event::Refused(Refusal::NotBuilt), Next::Go, out, err);
             }
-            Command::Execute(file) => file,
-        };
-        let event = self.execute(file, files);
-        report(&event, Next::Go, out, err)
+            Command::Execute(file) => {
+                let event = self.execute(file, files);
+                return report(&event, Next::Go, out, err);
+            }
+            Command::CheckLog(file) => {
+                let event = check_log(self.alloc, file, files);
+                return report(&event, Next::Go, out, err);
+            }
+        }
     }
 }

@@ -1,120 +1,97 @@
 ghost use Rattle.std.specs.Prelude.{◌≡◌, ◌≤◌, ◌⊎◌, ◌∷◌, [], ℕ, List, OnOk, OnErr, decimal, flat_map};
 ghost use Rattle.std.specs.Io.KnownBytes.{append_known};
 ghost use Rattle.outside.specs.Told.{AddsFront, HasRisen};
-ghost use Rattle.shell.specs.Texts.{event_text, is_output, place_of, refusal_text, section_word};
-ghost use Rattle.shell.specs.Pieces.{column_number, first_number, line_number};
-ghost use Rattle.shell.specs.Sessions.{WritesAll, WritesFront};
+ghost use Rattle.shell.specs.Texts.{event_text, is_output, joined, log_fault_text, place_of, refusal_text, section_word};
+ghost use Rattle.shell.specs.Pieces.{fault_place, first_number, second_number, third_number};
+ghost use Rattle.shell.specs.Written.{WritesAll, WritesFront};
 
 use crate::event::{Cause, Event, Refusal};
 use itoa::Buffer;
 use outside::{Failed, Sink, put_parts};
+use sat_log::LogFault;
 use smv_tree::Place;
 
+/// A line has at most so many parts; those that it does not need are empty.
+const PARTS: usize = 9;
+
+/// The parts of a line of one part.
+fn one(only: &[u8]) -> [&[u8]; PARTS]
+    ensures { flat_map (λ p. p.now) result ≡ joined (only.now ∷ []) }
+{
+    [only, b"", b"", b"", b"", b"", b"", b"", b""]
+}
+
+/// The parts of a line of three parts.
+fn three<'a>(first: &'a [u8], second: &'a [u8], third: &'a [u8]) -> [&'a [u8]; PARTS]
+    ensures { flat_map (λ p. p.now) result ≡ joined (first.now ∷ second.now ∷ third.now ∷ []) }
+{
+    [first, second, third, b"", b"", b"", b"", b"", b""]
+}
+
+/// The parts of a line of five parts.
+fn five<'a>(
+    first: &'a [u8],
+    second: &'a [u8],
+    third: &'a [u8],
+    fourth: &'a [u8],
+    fifth: &'a [u8],
+) -> [&'a [u8]; PARTS]
+    ensures { flat_map (λ p. p.now) result ≡ joined (first.now ∷ second.now ∷ third.now ∷ fourth.now ∷ fifth.now ∷ []) }
+{
+    [first, second, third, fourth, fifth, b"", b"", b"", b""]
+}
+
+/// The parts of the line of a fault of a log, from its number as it is written.
+fn log_fault_pieces<'a>(fault: &LogFault, number: &'a [u8]) -> [&'a [u8]; PARTS]
+    requires { number.now ≡ decimal (fault_place fault.now) }
+    ensures { flat_map (λ p. p.now) result ≡ log_fault_text fault.now }
+{
+    match fault {
+        LogFault::BadNumber(_) => three(
+            b"error 501: line ",
+            number,
+            b": bad number or word\n",
+        ),
+        LogFault::MissingZero(_) => three(b"error 502: line ", number, b": missing 0\n"),
+        LogFault::BadHint(_) => three(
+            b"error 503: line ",
+            number,
+            b": hint to no earlier clause\n",
+        ),
+        LogFault::NotAccepted(_) => three(b"error 504: clause ", number, b" is not accepted\n"),
+        LogFault::Truncated => one(b"error 505: the log ends too early\n"),
+        LogFault::NoMemory(_) => one(b"error 900: out of memory\n"),
+    }
+}
+
 /// The parts of the line of a refusal, from its number as it is written.
-fn refusal_pieces<'a>(refusal: &'a Refusal, line: &'a [u8]) -> [&'a [u8]; 9]
-    requires { line.now ≡ decimal (first_number (Event.Refused refusal.now)) }
+fn refusal_pieces<'a>(refusal: &'a Refusal, number: &'a [u8]) -> [&'a [u8]; PARTS]
+    requires { number.now ≡ decimal (first_number (Event.Refused refusal.now)) }
     ensures { flat_map (λ p. p.now) result ≡ refusal_text refusal.now }
 {
     match refusal {
-        Refusal::NotBuilt => [
-            b"error 899: not built yet\n",
-            b"",
-            b"",
-            b"",
-            b"",
-            b"",
-            b"",
-            b"",
-            b"",
-        ],
-        Refusal::NoValue(_, name) => [
+        Refusal::NotBuilt => one(b"error 899: not built yet\n"),
+        Refusal::NoValue(_, name) => five(
             b"error 616: line ",
-            line,
+            number,
             b": no value for ",
             name.as_slice(),
             b"\n",
-            b"",
-            b"",
-            b"",
-            b"",
-        ],
-        Refusal::NoFile(name) => [
-            b"error 646: ",
-            name.as_slice(),
-            b": no such file\n",
-            b"",
-            b"",
-            b"",
-            b"",
-            b"",
-            b"",
-        ],
-        Refusal::FileFault(name) => [
-            b"error 647: ",
-            name.as_slice(),
-            b": file fault\n",
-            b"",
-            b"",
-            b"",
-            b"",
-            b"",
-            b"",
-        ],
-        Refusal::FileTooLong(name) => [
+        ),
+        Refusal::BadLog(fault) => log_fault_pieces(fault, number),
+        Refusal::NoFile(name) => three(b"error 646: ", name.as_slice(), b": no such file\n"),
+        Refusal::FileFault(name) => three(b"error 647: ", name.as_slice(), b": file fault\n"),
+        Refusal::FileTooLong(name, _) => five(
             b"error 648: ",
             name.as_slice(),
-            b": longer than 4194304 bytes\n",
-            b"",
-            b"",
-            b"",
-            b"",
-            b"",
-            b"",
-        ],
-        Refusal::InputFailed => [
-            b"error 801: the input failed\n",
-            b"",
-            b"",
-            b"",
-            b"",
-            b"",
-            b"",
-            b"",
-            b"",
-        ],
-        Refusal::LineTooLong => [
-            b"error 802: line longer than 65536 bytes\n",
-            b"",
-            b"",
-            b"",
-            b"",
-            b"",
-            b"",
-            b"",
-            b"",
-        ],
-        Refusal::TooManyLines => [
-            b"error 803: more than 1000000 lines\n",
-            b"",
-            b"",
-            b"",
-            b"",
-            b"",
-            b"",
-            b"",
-            b"",
-        ],
-        Refusal::NoMemory => [
-            b"error 900: out of memory\n",
-            b"",
-            b"",
-            b"",
-            b"",
-            b"",
-            b"",
-            b"",
-            b"",
-        ],
+            b": longer than ",
+            number,
+            b" bytes\n",
+        ),
+        Refusal::InputFailed => one(b"error 801: the input failed\n"),
+        Refusal::LineTooLong => one(b"error 802: line longer than 65536 bytes\n"),
+        Refusal::TooManyLines => one(b"error 803: more than 1000000 lines\n"),
+        Refusal::NoMemory => one(b"error 900: out of memory\n"),
     }
 }
 
@@ -129,47 +106,39 @@ fn section_word(cause: &Cause) -> &[u8]
 }
 
 /// The parts of the text of an event, from its numbers as they are written.
-fn pieces<'a>(event: &'a Event, first: &'a [u8], line: &'a [u8], column: &'a [u8]) -> [&'a [u8]; 9]
+fn pieces<'a>(
+    event: &'a Event,
+    first: &'a [u8],
+    second: &'a [u8],
+    third: &'a [u8],
+) -> [&'a [u8]; PARTS]
     requires first { first.now ≡ decimal (first_number event.now) }
-    requires line { line.now ≡ decimal (line_number event.now) }
-    requires column { column.now ≡ decimal (column_number event.now) }
+    requires second { second.now ≡ decimal (second_number event.now) }
+    requires third { third.now ≡ decimal (third_number event.now) }
     ensures { flat_map (λ p. p.now) result ≡ event_text event.now }
 {
     match event {
-        Event::Executed(_) => [
-            b"-- the trace is executed, states: ",
-            first,
-            b"\n",
-            b"",
-            b"",
-            b"",
-            b"",
-            b"",
-            b"",
-        ],
+        Event::Executed(_) => three(b"-- the trace is executed, states: ", first, b"\n"),
         Event::Stops(_, cause) => [
             b"-- the trace stops at state ",
             first,
             b": ",
             section_word(cause),
             b" at ",
-            line,
+            second,
             b":",
-            column,
+            third,
             b"\n",
         ],
+        Event::LogAccepted(_, _) => five(
+            b"-- the log is accepted, originals: ",
+            first,
+            b", lines: ",
+            second,
+            b"\n",
+        ),
         Event::Refused(refusal) => refusal_pieces(refusal, first),
-        Event::Usage => [
-            b"usage: nusat [-int] [-source file] [model.smv] | nusat -gen n\n",
-            b"",
-            b"",
-            b"",
-            b"",
-            b"",
-            b"",
-            b"",
-            b"",
-        ],
+        Event::Usage => one(b"usage: nusat [-int] [-source file] [model.smv] | nusat -gen n\n"),
     }
 }
 
@@ -182,19 +151,33 @@ fn place_of(cause: &Cause) -> Place
     }
 }
 
-/// The numbers in the text of an event: its first, and the line and the column of its cause.
-fn numbers(event: &Event) -> (u64, u32, u32)
+/// The line or the clause at which a log has a fault.
+fn fault_place(fault: &LogFault) -> u64
+    ensures { result ≡ fault_place fault.now }
+{
+    match fault {
+        LogFault::BadNumber(line) | LogFault::MissingZero(line) | LogFault::BadHint(line) => *line,
+        LogFault::NotAccepted(id) => *id,
+        LogFault::Truncated | LogFault::NoMemory(_) => 0,
+    }
+}
+
+/// The numbers in the text of an event, in their order; 0 where there are fewer than three.
+fn numbers(event: &Event) -> (u64, u64, u64)
     ensures first { result.0 ≡ first_number event.now }
-    ensures line { result.1 ≡ line_number event.now }
-    ensures column { result.2 ≡ column_number event.now }
+    ensures second { result.1 ≡ second_number event.now }
+    ensures third { result.2 ≡ third_number event.now }
 {
     match event {
         Event::Executed(number) => (*number, 0, 0),
         Event::Stops(number, cause) => {
             let place = place_of(cause);
-            (*number, place.line, place.column)
+            (*number, u64::from(place.line), u64::from(place.column))
         }
+        Event::LogAccepted(originals, others) => (*originals, *others, 0),
         Event::Refused(Refusal::NoValue(line, _)) => (*line, 0, 0),
+        Event::Refused(Refusal::FileTooLong(_, limit)) => (*limit, 0, 0),
+        Event::Refused(Refusal::BadLog(fault)) => (fault_place(fault), 0, 0),
         Event::Refused(_) | Event::Usage => (0, 0, 0),
     }
 }
@@ -203,7 +186,7 @@ fn numbers(event: &Event) -> (u64, u32, u32)
 fn is_output(event: &Event) -> bool
     ensures { result ≡ is_output event.now }
 {
-    matches!(event, Event::Executed(_) | Event::Stops(_, _))
+    matches!(event, Event::Executed(_) | Event::Stops(_, _) | Event::LogAccepted(_, _))
 }
 
 /// Writes the text of an event to the sink that is given.
@@ -213,15 +196,15 @@ fn write<S: Sink>(event: &Event, out: &mut S) -> Result<(), Failed>
     ensures cause { OnErr result (HasRisen (S.faults out.old) (S.faults out.new)) }
     ensures count { S.faults out.old ≤ S.faults out.new }
 {
-    let (first, line, column) = numbers(event);
+    let (first, second, third) = numbers(event);
     let mut first_digits = Buffer::new();
-    let mut line_digits = Buffer::new();
-    let mut column_digits = Buffer::new();
+    let mut second_digits = Buffer::new();
+    let mut third_digits = Buffer::new();
     let pieces = pieces(
         event,
         first_digits.format(first).as_bytes(),
-        line_digits.format(line).as_bytes(),
-        column_digits.format(column).as_bytes(),
+        second_digits.format(second).as_bytes(),
+        third_digits.format(third).as_bytes(),
     );
     put_parts(out, &pieces)
 }

@@ -20,7 +20,7 @@ fn text(alloc: Global, bytes: &str) -> Result<Text, AllocError> {
 fn session<L: Ledger>(
     alloc: Global,
     word: &[u8],
-    trace: &Text,
+    file: &Text,
     input: &[u8],
     room: usize,
     blank: Blank,
@@ -35,7 +35,7 @@ fn session<L: Ledger>(
     }
     let mut files = MemFiles::new(alloc, &[])?;
     files.put(&text(alloc, "m.smv")?, TOGGLE.as_bytes())?;
-    files.put(&text(alloc, "t")?, trace.as_slice())?;
+    files.put(&text(alloc, "t")?, file.as_slice())?;
     let mut input = MemSource::new(alloc, input, &[])?;
     let mut out = MemSink::new(alloc, room, &[])?;
     let mut err = MemSink::new(alloc, 100, &[])?;
@@ -51,15 +51,15 @@ fn session<L: Ledger>(
 }
 
 /// What a session on this input writes: its output, its refusals, and its status as a digit. The
-/// model of the toggle is in `m.smv`, a trace in `t`, and the output takes so many bytes.
+/// model of the toggle is in `m.smv`, a trace or a log in `t`, and the output takes so many bytes.
 fn said(
     alloc: Global,
     word: &str,
-    trace: &Text,
+    file: &Text,
     input: &[u8],
     room: usize,
 ) -> Result<Text, AllocError> {
-    session::<Brand>(alloc, word.as_bytes(), trace, input, room, Blank::new(1))
+    session::<Brand>(alloc, word.as_bytes(), file, input, room, Blank::new(1))
 }
 
 #[test]
@@ -135,5 +135,51 @@ fn reads_lines_to_their_limit(rt: HostRuntime) -> Result<(), AllocError> {
     }
     let said = said(alloc, "", &Text::new(alloc), line.as_slice(), 99)?;
     assert!(rt; said.as_slice() == "error 802: line longer than 65536 bytes\n3".as_bytes());
+    Ok(())
+}
+
+#[test]
+fn checks_logs(rt: HostRuntime) -> Result<(), AllocError> {
+    let alloc = rt.alloc();
+    let rows = [
+        (
+            "1 o 1 2 0\n2 o 1 -2 0\n3 c 1 0 1 2 0\nend 3\n",
+            "-- the log is accepted, originals: 2, lines: 1\n0",
+        ),
+        (
+            "1 o 1 2 0\n2 o 1 -2 0\n3 c 1 0 1 0\nend 3\n",
+            "error 504: clause 3 is not accepted\n0",
+        ),
+        (
+            "1 o 1 2 0\n2 o 1 -2 0\n3 c 1 0 1 2 0\n",
+            "error 505: the log ends too early\n0",
+        ),
+        (
+            "1 o 1 0\n2 o -1 0\n3 c 0 1 2 0\nend 3",
+            "-- the log is accepted, originals: 2, lines: 1\n0",
+        ),
+        (
+            "1 o 1 0\n2 o -1 0\n3 c 0 1 2 1 0\nend 3\n",
+            "error 504: clause 3 is not accepted\n0",
+        ),
+        (
+            "1 o 1 0\n2 o -1 0\n3 c 0 1 2\nend 3\n",
+            "error 502: line 4: missing 0\n0",
+        ),
+        (
+            "1 o 1 0\n2 o -1 0\n3 c 0 3 0\nend 3\n",
+            "error 503: line 4: hint to no earlier clause\n0",
+        ),
+        (
+            "1 o 1 0\n2 o -1 0\n3 q 0 1 2 0\nend 3\n",
+            "error 501: line 4: bad number or word\n0",
+        ),
+    ];
+    for (lines, want) in rows {
+        let mut log = text(alloc, "log 1\n")?;
+        log.extend(lines.as_bytes())?;
+        let said = said(alloc, "", &log, b"check_log t", 99)?;
+        assert!(rt; said.as_slice() == want.as_bytes(), "{want}");
+    }
     Ok(())
 }

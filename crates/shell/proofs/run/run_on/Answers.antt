@@ -2,7 +2,7 @@ use Rattle.std.proofs.Common.{◌∷◌, [], refl, inr}
 use Rattle.std.specs.Option.{option_copied}
 use Rattle.shell.specs.declared.event.Event.TheVariants.{Refused}
 use Rattle.shell.specs.declared.event.Refusal.TheVariants.{NoMemory}
-use Rattle.shell.specs.Sessions.{disk_of, input_of, fresh}
+use Rattle.shell.specs.Worlds.{disk_of, input_of, fresh}
 use Rattle.shell.proofs.run.run_on.Goals as goal
 
 pub returns-in_default-clause-session : goal.returns-in_default-clause-session

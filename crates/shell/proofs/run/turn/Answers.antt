@@ -2,7 +2,7 @@ use Rattle.std.proofs.Common.{[], refl}
 use Rattle.std.specs.Prelude.{Ok}
 use Rattle.outside.specs.declared.source.Line.TheVariants as line
 use Rattle.shell.specs.declared.next.Next.TheVariants.{Stop}
-use Rattle.shell.specs.Sessions.{sinks_of}
+use Rattle.shell.specs.Written.{sinks_of}
 use Rattle.shell.proofs.TellLemmas.{nothing_told}
 use Rattle.shell.proofs.run.turn.Goals as goal
 

@@ -1,6 +1,7 @@
 use Rattle.std.proofs.Common.{◌≡◌, ◌-◌, ◌≤◌}
 use Rattle.shell.specs.SessionViews.{state_of}
-use Rattle.shell.specs.Sessions.{disk_of, input_of, sinks_of, world_of}
+use Rattle.shell.specs.Worlds.{disk_of, input_of, world_of}
+use Rattle.shell.specs.Written.{sinks_of}
 use Rattle.shell.proofs.RunsLemmas.{SoFar}
 use Rattle.shell.proofs.run.turns.Given as goal
 

@@ -1,7 +1,7 @@
 use Rattle.std.proofs.Common.{◌∙◌, sym, ap, refl}
 use Rattle.std.specs.Option.{option_map}
 use Rattle.smv_tree.specs.Models.{bodies}
-use Rattle.shell.specs.Sessions.{disk_of}
+use Rattle.shell.specs.Worlds.{disk_of}
 use Rattle.shell.specs.SessionViews.{state_of}
 use Rattle.shell.proofs.SessionLemmas.{executed, after_refusal, after_answer}
 use Rattle.shell.proofs.session.Session.execute.Goals as goal

@@ -3,7 +3,9 @@ use Rattle.shell.specs.declared.next.Next.TheVariants.{Go, Stop}
 use Rattle.shell.specs.Commands.{command_of}
 use Rattle.shell.specs.CommandViews.{view}
 use Rattle.shell.specs.SessionViews.{state_of}
-use Rattle.shell.specs.Sessions.{DoesCommand, disk_of, sinks_of}
+use Rattle.shell.specs.Worlds.{disk_of}
+use Rattle.shell.specs.Sessions.{DoesCommand}
+use Rattle.shell.specs.Written.{sinks_of}
 use Rattle.shell.proofs.TellLemmas.{nothing_told}
 use Rattle.shell.proofs.session.Session.step_line.Goals as goal
 

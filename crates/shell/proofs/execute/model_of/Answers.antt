@@ -2,7 +2,7 @@ use Rattle.std.proofs.Common.{◌∙◌, sym, ap}
 use Rattle.std.proofs.lemmas.Option.{same_Some, none-some}
 use Rattle.std.proofs.lemmas.Bool.{both_ways}
 use Rattle.shell.specs.Plain.{is_plain_program}
-use Rattle.shell.proofs.session.model_of.Goals as goal
+use Rattle.shell.proofs.execute.model_of.Goals as goal
 
 pub returns-in-Err-Refused : goal.returns-in-Err-Refused
 returns-in-Err-Refused c = λ program spelled plain.
