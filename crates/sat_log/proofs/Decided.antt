@@ -16,10 +16,10 @@ use Rattle.sat_log.specs.declared.marks.Look.TheVariants.{Falsified, Propagates,
 abbrev literal_of : ℕ → Bool → Literal
 literal_of var negative = record { var = var; negative = negative }
 
-literal_by_parts : (a b : Literal) → a.var ≡ b.var → a.negative ≡ b.negative → a ≡ b
+pub literal_by_parts : (a b : Literal) → a.var ≡ b.var → a.negative ≡ b.negative → a ≡ b
 literal_by_parts a b v n = ap (λ x. literal_of x a.negative) v ∙ ap (literal_of b.var) n
 
-packed_injective : (a b : Literal) → packed a ≡ packed b → a ≡ b
+pub packed_injective : (a b : Literal) → packed a ≡ packed b → a ≡ b
 packed_injective a b e = by_signs a.negative b.negative refl refl
   where
     by_signs : (s t : Bool) → a.negative ≡ s → b.negative ≡ t → a ≡ b

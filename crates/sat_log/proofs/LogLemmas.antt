@@ -4,9 +4,10 @@ use Rattle.std.proofs.lemmas.List.{append-nil}
 use Rattle.sat_log.specs.Literal.{Literal}
 use Rattle.sat_log.specs.Clause.{AreLiterals, HasDistinctVariables}
 use Rattle.sat_log.specs.Accepted.{Accepts, IsOfKind, Follows, AreLines, IsLog}
-use Rattle.sat_log.specs.Marked.{Marked}
+use Rattle.sat_log.specs.Marked.{Marked, HasRoomFor, HasRoomForAll, KeepsRoom}
 use Rattle.sat_log.specs.Checking.{IsUpTo, AreUpTo}
 use Rattle.sat_log.specs.Kept.{KeepsLog}
+use Rattle.sat_log.proofs.MarkLemmas.{clause_keeps}
 use Rattle.sat_log.specs.declared.line.LineKind.{LineKind}
 use Rattle.sat_log.specs.declared.line.LineKind.TheVariants.{Original, Conflict, Final}
 use Rattle.sat_log.specs.declared.line.LogLine.{LogLine}
@@ -44,18 +45,28 @@ accepted_follows log line literals other a = (literals, of_kind line.kind other)
     of_kind Conflict other = a
     of_kind Final other = a
 
--- the marks were given more room
-pub keeps_room : (log : List LogLine) (old new : Marked) → KeepsLog log old → new.set ≡ [] → old.room ≤ new.room → KeepsLog log new
-keeps_room log old new k clear more =
-    record { log = k.log; clear = clear; room = all_up_to_more old.room new.room log more k.room }
+all_keep : (old new : Marked) (log : List LogLine) → KeepsRoom old new → HasRoomForAll old log → HasRoomForAll new log
+all_keep old new [] keeps h = tt
+all_keep old new (line ∷ log) keeps h =
+    (clause_keeps old new line.lits keeps h.0, all_keep old new log keeps h.1)
+
+all_room_push : (marks : Marked) (log : List LogLine) (line : LogLine) → HasRoomForAll marks log → HasRoomFor marks line.lits → HasRoomForAll marks (log ++ line ∷ [])
+all_room_push marks [] line h r = (r, tt)
+all_room_push marks (x ∷ log) line h r = (h.0, all_room_push marks log line h.1 r)
+
+-- the marks were given more room, and the last variable may be greater
+pub keeps_room : (log : List LogLine) (old new : Marked) (last last' : ℕ) → KeepsLog log old last → new.set ≡ [] → KeepsRoom old new → last ≤ last' → KeepsLog log new last'
+keeps_room log old new last last' k clear keeps more =
+    record { log = k.log; clear = clear; room = all_keep old new log keeps k.room; up_to = all_up_to_more last last' log more k.up_to }
 
 -- a line was appended that may come next
-pub keeps_push : (log : List LogLine) (line : LogLine) (old new : Marked) (last : ℕ) → KeepsLog log old → new.set ≡ [] → old.room ≤ new.room → Follows log line → IsUpTo last line.lits → last ≤ new.room → KeepsLog (log ++ line ∷ []) new
-keeps_push log line old new last k clear more follows u h =
+pub keeps_push : (log : List LogLine) (line : LogLine) (old new : Marked) (last most last' : ℕ) → KeepsLog log old last → new.set ≡ [] → KeepsRoom old new → Follows log line → HasRoomFor new line.lits → IsUpTo most line.lits → most ≤ last' → last ≤ last' → KeepsLog (log ++ line ∷ []) new last'
+keeps_push log line old new last most last' k clear keeps follows room u h more =
     record {
       log = log_push log line k.log follows;
       clear = clear;
-      room = all_up_to_push new.room log line (all_up_to_more old.room new.room log more k.room) (up_to_more last new.room line.lits h u);
+      room = all_room_push new log line (all_keep old new log keeps k.room) room;
+      up_to = all_up_to_push last' log line (all_up_to_more last last' log more k.up_to) (up_to_more most last' line.lits h u);
     }
 
 -- an original with a literal, no variable twice and no hint may come next

@@ -1,25 +1,216 @@
--- The table of literals that are set, through a write and a clearing.
-use Rattle.std.proofs.Common.{◌≡◌, ℕ, suc, ◌+◌, ◌*◌, ◌<◌, ◌≤◌, Bool, true, false, cond, eqb, ◌||◌, ◌⊎◌, inl, inr, List, [], ◌∷◌, ◌++◌, length, get_or, set, refl, ap, sym, ◌∙◌, subst, get_or-set_same, get_or-set_other, length-set, arith}
-use Rattle.std.specs.Prelude.{count_by}
-use Rattle.std.specs.List.{AllByRecursion}
-use Rattle.std.proofs.lemmas.List.Sums.{sum_by-set, count_by-le-length}
-use Rattle.std.proofs.lemmas.List.Folds.{list_any-append}
-use Rattle.std.proofs.lemmas.Bool.{false≢true, eq-eqb, ne_eqb, cases_eq}
-use Rattle.std.proofs.lemmas.List.{length_push}
+-- The table of literals that are set: its places, a write, and a clearing.
+use Rattle.std.proofs.Common.{◌≡◌, ◌≢◌, ℕ, suc, ◌+◌, ◌*◌, ◌<◌, ◌≤◌, Bool, true, false, cond, not, eqb, ltb, ◌||◌, ◌⊎◌, inl, inr, List, [], ◌∷◌, ◌++◌, length, get_or, set, take, refl, ap, sym, ◌∙◌, subst, get_or-set_same, get_or-set_other, length-set, arith, rules, tests}
+use Rattle.std.specs.Prelude.{count_by, Some, None}
+use Rattle.std.specs.List.{AllByRecursion, list_any, position, position_or_len}
+use Rattle.std.proofs.lemmas.List.Sums.{sum_by-set, count_by-le-length, prefix_len-le-length, passes_at_first}
+use Rattle.std.proofs.lemmas.List.Folds.{list_any-append, position_or_len_push}
+use Rattle.std.proofs.lemmas.Bool.{false≢true, eqb-true, eq-eqb, ne_eqb, cases_eq, cases_lt, ltb-false}
+use Rattle.std.proofs.lemmas.List.{length_push, take_more}
+use Rattle.indexmap.specs.IndexSet.{insert_key}
 use Rattle.sat_log.specs.Literal.{Literal, packed}
-use Rattle.sat_log.specs.Marked.{is_numbered, Agrees}
+use Rattle.sat_log.specs.Marked.{Marked, is_numbered, place, places, HasPlace, HasRoomFor, KeepsRoom, placed, is_placed, Agrees, IsClear}
+use Rattle.sat_log.specs.Checking.{IsUpTo}
+use Rattle.sat_log.proofs.Decided.{literal_by_parts, packed_injective}
 
--- a literal up to the room is in the table
-pub packed_within : (l : Literal) (room : ℕ) → l.var ≤ room → packed l < 2 * room + 2
-packed_within l room h = sign l.negative
+-- Places of variables.
+
+lt_ltb : (a b : ℕ) → a < b → ltb a b ≡ true
+lt_ltb a b h = search (rules, tests)
+
+le_ltb : (a b : ℕ) → b ≤ a → ltb a b ≡ false
+le_ltb a b h = search (rules, tests)
+
+pub near_place : (room : ℕ) (far : List ℕ) (v : ℕ) → v ≤ room → place room far v ≡ v
+near_place room far v h = ap (λ t. cond t (room + 1 + position_or_len (eqb v) far) v) (le_ltb room v h)
+
+pub far_place : (room : ℕ) (far : List ℕ) (v : ℕ) → room < v → place room far v ≡ room + 1 + position_or_len (eqb v) far
+far_place room far v h = ap (λ t. cond t (room + 1 + position_or_len (eqb v) far) v) (lt_ltb room v h)
+
+pub near_has_place : (room : ℕ) (far : List ℕ) (v : ℕ) → v ≤ room → HasPlace room far v
+near_has_place room far v h = omega (arith, near_place room far v h)
+
+far_variable : (far : List ℕ) (v : ℕ) → position_or_len (eqb v) far < length far → v ≡ get_or far (position_or_len (eqb v) far) 0
+far_variable far v h = eqb-true v _ (passes_at_first (eqb v) far 0 h)
+
+position_within : (p : ℕ → Bool) (xs : List ℕ) → position_or_len p xs ≤ length xs
+position_within p xs = prefix_len-le-length (λ x. not (p x)) xs
+
+-- where a variable is found, and where it would be
+pub found_at : (p : ℕ → Bool) (far : List ℕ) (i : ℕ) → position p far ≡ Some i → i ≡ position_or_len p far
+found_at p far i e = by_test (ltb (position_or_len p far) (length far)) e
   where
-    sign : (s : Bool) → 2 * l.var + cond s 1 0 < 2 * room + 2
+    by_test : (b : Bool) → cond b (Some (position_or_len p far)) None ≡ Some i → i ≡ position_or_len p far
+    by_test true e = cc
+    by_test false e = cc
+
+pub not_found : (p : ℕ → Bool) (far : List ℕ) → position p far ≡ None → length far ≡ position_or_len p far
+not_found p far e = by_test (ltb (position_or_len p far) (length far)) refl e
+  where
+    by_test : (b : Bool) → ltb (position_or_len p far) (length far) ≡ b → cond b (Some (position_or_len p far)) None ≡ None → length far ≡ position_or_len p far
+    by_test true t e = cc
+    by_test false t e =
+        let bound = position_within p far in
+        let past = ltb-false (position_or_len p far) (length far) t in
+        omega arith
+
+place_injective : (room : ℕ) (far : List ℕ) (v w : ℕ) → HasPlace room far v → HasPlace room far w → place room far v ≡ place room far w → v ≡ w
+place_injective room far v w h k e = by_room (cases_lt room v) (cases_lt room w)
+  where
+    by_room : (room < v) ⊎ (v ≤ room) → (room < w) ⊎ (w ≤ room) → v ≡ w
+    by_room (inr a) (inr b) = sym (near_place room far v a) ∙ e ∙ near_place room far w b
+    by_room (inl a) (inr b) = absurd (omega (arith, far_place room far v a, near_place room far w b))
+    by_room (inr a) (inl b) = absurd (omega (arith, near_place room far v a, far_place room far w b))
+    by_room (inl a) (inl b) =
+        let p = far_place room far v a in
+        let q = far_place room far w b in
+        let same : position_or_len (eqb v) far ≡ position_or_len (eqb w) far = omega arith in
+        far_variable far v (omega arith) ∙ ap (λ i. get_or far i 0) same ∙ sym (far_variable far w (omega arith))
+
+pub number_within : (room : ℕ) (far : List ℕ) (l : Literal) → HasPlace room far l.var → packed (placed room far l) < 2 * places room far
+number_within room far l h = sign l.negative
+  where
+    sign : (s : Bool) → 2 * place room far l.var + cond s 1 0 < 2 * places room far
     sign true = omega arith
     sign false = omega arith
 
+same_number : (room : ℕ) (far : List ℕ) (x l : Literal) → HasPlace room far x.var → HasPlace room far l.var → eqb (packed (placed room far x)) (packed (placed room far l)) ≡ eqb (packed x) (packed l)
+same_number room far x l h k = by_numbers (cases_eq (packed x) (packed l))
+  where
+    same_literal : packed (placed room far x) ≡ packed (placed room far l) → x ≡ l
+    same_literal e =
+        let same = packed_injective (placed room far x) (placed room far l) e in
+        literal_by_parts x l (place_injective room far x.var l.var h k (ap (λ (y : Literal). y.var) same)) (ap (λ (y : Literal). y.negative) same)
+
+    by_numbers : (packed x ≡ packed l) ⊎ (packed x ≢ packed l) → eqb (packed (placed room far x)) (packed (placed room far l)) ≡ eqb (packed x) (packed l)
+    by_numbers (inl e) =
+        eq-eqb (packed (placed room far x)) (packed (placed room far l)) (ap (λ y. packed (placed room far y)) (packed_injective x l e)) ∙ sym (eq-eqb (packed x) (packed l) e)
+    by_numbers (inr ne) =
+        ne_eqb (packed (placed room far x)) (packed (placed room far l)) (λ e. ne (ap packed (same_literal e))) ∙ sym (ne_eqb (packed x) (packed l) ne)
+
+-- what the table says of a literal
+pub placed_set : (room : ℕ) (far : List ℕ) (trail : List Literal) (l : Literal) → AllByRecursion (λ x. HasPlace room far x.var) trail → HasPlace room far l.var → is_placed room far trail (packed (placed room far l)) ≡ is_numbered trail (packed l)
+placed_set room far [] l h k = refl
+placed_set room far (x ∷ trail) l h k =
+    ap (λ b. b || is_placed room far trail (packed (placed room far l))) (same_number room far x l h.0 k)
+    ∙ ap (λ b. eqb (packed x) (packed l) || b) (placed_set room far trail l h.1 k)
+
+-- More room.
+
+keeps_wider : (room wider : ℕ) (far : List ℕ) → room ≤ wider → (v : ℕ) → HasPlace room far v → HasPlace wider far v
+keeps_wider room wider far more v h = by_room (cases_lt wider v)
+  where
+    by_room : (wider < v) ⊎ (v ≤ wider) → HasPlace wider far v
+    by_room (inr a) = near_has_place wider far v a
+    by_room (inl a) = omega (arith, far_place room far v (omega arith), far_place wider far v a)
+
+any_position : (p : ℕ → Bool) (xs : List ℕ) → list_any p xs ≡ true → position_or_len p xs < length xs
+any_position p [] e = absurd (false≢true e)
+any_position p (x ∷ xs) e = by_first (p x) e (any_position p xs)
+  where
+    by_first : (b : Bool) → b || list_any p xs ≡ true → (list_any p xs ≡ true → position_or_len p xs < length xs) → cond (not b) (1 + position_or_len p xs) 0 < length (x ∷ xs)
+    by_first true e rest = omega arith
+    by_first false e rest =
+        let behind = rest e in
+        omega arith
+
+position_pushed : (v : ℕ) (far : List ℕ) (k : ℕ) → position_or_len (eqb v) far < length far → position_or_len (eqb v) (far ++ k ∷ []) ≡ position_or_len (eqb v) far
+position_pushed v far k h =
+    position_or_len_push (eqb v) far k ∙ ap (λ t. cond t (length far + cond {A = ℕ} (eqb v k) 0 1) (position_or_len (eqb v) far)) (ne_eqb (position_or_len (eqb v) far) (length far) (λ e. absurd (omega arith)))
+
+keeps_pushed : (room : ℕ) (far : List ℕ) (k v : ℕ) → HasPlace room far v → HasPlace room (far ++ k ∷ []) v
+keeps_pushed room far k v h = by_room (cases_lt room v)
+  where
+    by_room : (room < v) ⊎ (v ≤ room) → HasPlace room (far ++ k ∷ []) v
+    by_room (inr a) = near_has_place room (far ++ k ∷ []) v a
+    by_room (inl a) =
+        let inside : position_or_len (eqb v) far < length far = omega (arith, far_place room far v a) in
+        omega (arith, far_place room (far ++ k ∷ []) v a, position_pushed v far k inside, length_push far k)
+
+pub keeps_inserted : (room : ℕ) (far : List ℕ) (k v : ℕ) → HasPlace room far v → HasPlace room (insert_key eqb far k) v
+keeps_inserted room far k v h = by_test (list_any (eqb k) far)
+  where
+    by_test : (b : Bool) → HasPlace room (cond b far (far ++ k ∷ [])) v
+    by_test true = h
+    by_test false = keeps_pushed room far k v h
+
+pushed_place : (k : ℕ) (far : List ℕ) → position_or_len (eqb k) (far ++ k ∷ []) < length far + 1
+pushed_place k far = by_place (cases_eq (position_or_len (eqb k) far) (length far))
+  where
+    by_place : (position_or_len (eqb k) far ≡ length far) ⊎ (position_or_len (eqb k) far ≢ length far) → position_or_len (eqb k) (far ++ k ∷ []) < length far + 1
+    by_place (inl e) =
+        omega (arith, position_or_len_push (eqb k) far k ∙ ap (λ t. cond t (length far + cond {A = ℕ} (eqb k k) 0 1) (position_or_len (eqb k) far)) (eq-eqb (position_or_len (eqb k) far) (length far) e) ∙ ap (λ t. length far + cond {A = ℕ} t 0 1) (eq-eqb k k refl))
+    by_place (inr ne) =
+        let bound = position_within (eqb k) far in
+        let inside : position_or_len (eqb k) far < length far = omega (arith, ne) in
+        omega (arith, position_pushed k far k inside)
+
+pub inserted_has_place : (room : ℕ) (far : List ℕ) (k : ℕ) → room < k → HasPlace room (insert_key eqb far k) k
+inserted_has_place room far k h = by_test (list_any (eqb k) far) refl
+  where
+    by_test : (b : Bool) → list_any (eqb k) far ≡ b → HasPlace room (cond b far (far ++ k ∷ [])) k
+    by_test true e = omega (arith, far_place room far k h, any_position (eqb k) far e)
+    by_test false e =
+        omega (arith, far_place room (far ++ k ∷ []) k h, pushed_place k far, length_push far k)
+
+pub inserted_size : (far : List ℕ) (k : ℕ) → length (insert_key eqb far k) ≤ length far + 1
+inserted_size far k = by_test (list_any (eqb k) far)
+  where
+    by_test : (b : Bool) → length (cond b far (far ++ k ∷ [])) ≤ length far + 1
+    by_test true = omega arith
+    by_test false = omega (arith, length_push far k)
+
+pub wider_keeps : (old new : Marked) → old.room ≤ new.room → new.far ≡ old.far → KeepsRoom old new
+wider_keeps old new more same v h =
+    subst (λ far. HasPlace new.room far v) (sym same) (keeps_wider old.room new.room old.far more v h)
+
+-- Room for a variable is room for the variables of clauses.
+
+pub clause_keeps : (old new : Marked) (c : List Literal) → KeepsRoom old new → HasRoomFor old c → HasRoomFor new c
+clause_keeps old new [] keeps h = tt
+clause_keeps old new (l ∷ c) keeps h = (keeps l.var h.0, clause_keeps old new c keeps h.1)
+
+pub up_to_has_room : (marks : Marked) (c : List Literal) → IsUpTo marks.room c → HasRoomFor marks c
+up_to_has_room marks [] h = tt
+up_to_has_room marks (l ∷ c) h =
+    (near_has_place marks.room marks.far l.var h.0, up_to_has_room marks c h.1)
+
+pub All-push : (P : Literal → Type 0) (xs : List Literal) (x : Literal) → AllByRecursion P xs → P x → AllByRecursion P (xs ++ x ∷ [])
+All-push P [] x h p = (p, tt)
+All-push P (y ∷ xs) x h p = (h.0, All-push P xs x h.1 p)
+
+one_more : (P : Literal → Type 0) (xs : List Literal) (i : ℕ) (x : Literal) → i < length xs → x ≡ get_or xs i x → AllByRecursion P (take i xs) → P x → AllByRecursion P (take (i + 1) xs)
+one_more P xs i x h e all p =
+    subst (AllByRecursion P) (sym (take_more xs i x h ∙ ap (λ y. take i xs ++ y ∷ []) (sym e))) (All-push P (take i xs) x all p)
+
+pub one_more_has_room : (marks : Marked) (c : List Literal) (i : ℕ) (l : Literal) → i < length c → l ≡ get_or c i l → HasRoomFor marks (take i c) → HasPlace marks.room marks.far l.var → HasRoomFor marks (take (i + 1) c)
+one_more_has_room marks c i l h e room here =
+    one_more (λ l. HasPlace marks.room marks.far l.var) c i l h e room here
+
+-- A table in which nothing is set.
+
+pub clear_agrees : (room : ℕ) (far : List ℕ) (truths : List Bool) (capacity : ℕ) → 2 * places room far ≤ length truths → IsClear truths → length truths ≤ capacity → Agrees room far truths [] capacity
+clear_agrees room far truths capacity size clear spare =
+    record { size = size; within = tt; values = clear; count = all_false truths clear; spare = spare }
+  where
+    all_false : (truths : List Bool) → IsClear truths → count_by (λ b. b) truths ≡ 0
+    all_false [] h = refl
+    all_false (true ∷ truths) h = absurd (false≢true (sym (h 0 (omega arith))))
+    all_false (false ∷ truths) h = all_false truths (λ n below. h (suc n) (omega arith))
+
+pub agrees_clear : (room : ℕ) (far : List ℕ) (truths : List Bool) (trail : List Literal) (capacity : ℕ) → Agrees room far truths trail capacity → trail ≡ [] → IsClear truths
+agrees_clear room far truths trail capacity a none n h =
+    a.values n h ∙ ap (λ t. is_placed room far t n) none
+
+-- a longer table in which nothing is set
+pub stretched : (room : ℕ) (far : List ℕ) (truths : List Bool) (trail : List Literal) (capacity : ℕ) → trail ≡ [] → 2 * places room far ≤ length truths → IsClear truths → length truths ≤ capacity → Agrees room far truths trail capacity
+stretched room far truths trail capacity none size clear spare =
+    subst (λ t. Agrees room far truths t capacity) (sym none) (clear_agrees room far truths capacity size clear spare)
+
+-- One more literal is set.
+
 -- where a place is not marked, the trail has room for one more
-pub spare_left : (room : ℕ) (truths : List Bool) (trail : List Literal) (capacity n : ℕ) → Agrees room truths trail capacity → n < length truths → get_or truths n false ≡ false → length trail < capacity
-spare_left room truths trail capacity n a h e =
+pub spare_left : (room : ℕ) (far : List ℕ) (truths : List Bool) (trail : List Literal) (capacity n : ℕ) → Agrees room far truths trail capacity → n < length truths → get_or truths n false ≡ false → length trail < capacity
+spare_left room far truths trail capacity n a h e =
     let more : count_by (λ b. b) (set truths n true) + cond {A = ℕ} (get_or truths n false) 1 0 ≡ count_by (λ b. b) truths + 1 = sum_by-set (λ (b : Bool). cond b 1 0) truths n true false h in
     let bound : count_by (λ b. b) (set truths n true) ≤ length (set truths n true) = count_by-le-length (λ b. b) (set truths n true) in
     let none : cond {A = ℕ} (get_or truths n false) 1 0 ≡ 0 = ap (λ b. cond {A = ℕ} b 1 0) e in
@@ -35,8 +226,8 @@ count_by-set_true truths n h e =
     let none : cond {A = ℕ} (get_or truths n false) 1 0 ≡ 0 = ap (λ b. cond {A = ℕ} b 1 0) e in
     omega arith
 
-is_numbered-push : (trail : List Literal) (l : Literal) (n : ℕ) → is_numbered (trail ++ l ∷ []) n ≡ is_numbered trail n || (eqb (packed l) n || false)
-is_numbered-push trail l n = list_any-append (λ x. eqb (packed x) n) trail (l ∷ [])
+is_placed-push : (room : ℕ) (far : List ℕ) (trail : List Literal) (l : Literal) (n : ℕ) → is_placed room far (trail ++ l ∷ []) n ≡ is_placed room far trail n || (eqb (packed (placed room far l)) n || false)
+is_placed-push room far trail l n = list_any-append (λ x. eqb (packed (placed room far x)) n) trail (l ∷ [])
 
 or_true : (a b : Bool) → b ≡ true → a || (b || false) ≡ true
 or_true true b e = refl
@@ -46,44 +237,41 @@ or_false : (a b : Bool) → b ≡ false → a || (b || false) ≡ a
 or_false true b e = refl
 or_false false b e = rw e
 
-All-push : (P : Literal → Type 0) (xs : List Literal) (x : Literal) → AllByRecursion P xs → P x → AllByRecursion P (xs ++ x ∷ [])
-All-push P [] x h p = (p, tt)
-All-push P (y ∷ xs) x h p = (h.0, All-push P xs x h.1 p)
-
-values_set : (truths : List Bool) (trail : List Literal) (l : Literal) (n : ℕ) → packed l ≡ n → n < length truths → ((m : ℕ) → m < length truths → get_or truths m false ≡ is_numbered trail m) → (m : ℕ) → m < length truths → get_or (set truths n true) m false ≡ is_numbered (trail ++ l ∷ []) m
-values_set truths trail l n code h values m below = by_place (cases_eq m n)
+values_set : (room : ℕ) (far : List ℕ) (truths : List Bool) (trail : List Literal) (l : Literal) (n : ℕ) → packed (placed room far l) ≡ n → n < length truths → ((m : ℕ) → m < length truths → get_or truths m false ≡ is_placed room far trail m) → (m : ℕ) → m < length truths → get_or (set truths n true) m false ≡ is_placed room far (trail ++ l ∷ []) m
+values_set room far truths trail l n code h values m below = by_place (cases_eq m n)
   where
-    by_place : (m ≡ n) ⊎ (m ≡ n → ⊥) → get_or (set truths n true) m false ≡ is_numbered (trail ++ l ∷ []) m
+    by_place : (m ≡ n) ⊎ (m ≡ n → ⊥) → get_or (set truths n true) m false ≡ is_placed room far (trail ++ l ∷ []) m
     by_place (inl e) =
-        ap (λ k. get_or (set truths n true) k false) e ∙ get_or-set_same truths n true false h ∙ sym (is_numbered-push trail l m ∙ or_true (is_numbered trail m) (eqb (packed l) m) (eq-eqb (packed l) m (code ∙ sym e)))
+        ap (λ k. get_or (set truths n true) k false) e ∙ get_or-set_same truths n true false h ∙ sym (is_placed-push room far trail l m ∙ or_true (is_placed room far trail m) (eqb (packed (placed room far l)) m) (eq-eqb (packed (placed room far l)) m (code ∙ sym e)))
     by_place (inr ne) =
-        get_or-set_other truths n m true false ne ∙ values m below ∙ sym (is_numbered-push trail l m ∙ or_false (is_numbered trail m) (eqb (packed l) m) (ne_eqb (packed l) m (λ e. ne (sym e ∙ code))))
+        get_or-set_other truths n m true false ne ∙ values m below ∙ sym (is_placed-push room far trail l m ∙ or_false (is_placed room far trail m) (eqb (packed (placed room far l)) m) (ne_eqb (packed (placed room far l)) m (λ e. ne (sym e ∙ code))))
 
--- one more literal is set
-pub agrees_set : (room : ℕ) (truths : List Bool) (trail : List Literal) (capacity n : ℕ) (l : Literal) → packed l ≡ n → Agrees room truths trail capacity → l.var ≤ room → is_numbered trail n ≡ false → Agrees room (set truths n true) (trail ++ l ∷ []) capacity
-agrees_set room truths trail capacity n l code a h e =
-    let bound : packed l < 2 * room + 2 = packed_within l room h in
-    let size : length truths ≡ 2 * room + 2 = a.size in
-    let inside : n < length truths = subst (λ k. k < length truths) code (subst (λ k. packed l < k) (sym size) bound) in
+pub agrees_set : (room : ℕ) (far : List ℕ) (truths : List Bool) (trail : List Literal) (capacity n : ℕ) (l : Literal) → packed (placed room far l) ≡ n → Agrees room far truths trail capacity → HasPlace room far l.var → is_numbered trail (packed l) ≡ false → Agrees room far (set truths n true) (trail ++ l ∷ []) capacity
+agrees_set room far truths trail capacity n l code a h e =
+    let bound : packed (placed room far l) < 2 * places room far = number_within room far l h in
+    let size : 2 * places room far ≤ length truths = a.size in
+    let inside : n < length truths = omega (arith, code) in
     let kept : length (set truths n true) ≡ length truths = length-set truths n true in
-    let unmarked : get_or truths n false ≡ false = a.values n inside ∙ e in
+    let unmarked : get_or truths n false ≡ false = a.values n inside ∙ ap (is_placed room far trail) (sym code) ∙ placed_set room far trail l a.within h ∙ e in
     record {
-      size = kept ∙ size;
-      within = All-push (λ l. l.var ≤ room) trail l a.within h;
-      values = (λ m below. values_set truths trail l n code inside a.values m (subst (λ k. m < k) kept below));
+      size = subst (λ k. 2 * places room far ≤ k) (sym kept) size;
+      within = All-push (λ l. HasPlace room far l.var) trail l a.within h;
+      values = (λ m below. values_set room far truths trail l n code inside a.values m (subst (λ k. m < k) kept below));
       count = count_by-set_true truths n inside unmarked ∙ ap (λ k. k + 1) a.count ∙ sym (length_push trail l);
       spare = subst (λ k. k ≤ capacity) (sym kept) a.spare;
     }
 
--- While marks are taken away: each place that is true is that of a literal still on the trail.
-pub record Covers (room : ℕ) (truths : List Bool) (trail : List Literal) (capacity : ℕ) : Type 0 where
-  pub size : length truths ≡ 2 * room + 2
-  pub within : AllByRecursion (λ l. l.var ≤ room) trail
-  pub covered : (n : ℕ) → n < length truths → get_or truths n false ≡ true → is_numbered trail n ≡ true
+-- Marks are taken away.
+
+-- each place that is true is that of a literal still on the trail
+pub record Covers (room : ℕ) (far : List ℕ) (truths : List Bool) (trail : List Literal) (capacity : ℕ) : Type 0 where
+  pub size : 2 * places room far ≤ length truths
+  pub within : AllByRecursion (λ l. HasPlace room far l.var) trail
+  pub covered : (n : ℕ) → n < length truths → get_or truths n false ≡ true → is_placed room far trail n ≡ true
   pub spare : length truths ≤ capacity
 
-pub agrees_covers : (room : ℕ) (truths : List Bool) (trail : List Literal) (capacity : ℕ) → Agrees room truths trail capacity → Covers room truths trail capacity
-agrees_covers room truths trail capacity a =
+pub agrees_covers : (room : ℕ) (far : List ℕ) (truths : List Bool) (trail : List Literal) (capacity : ℕ) → Agrees room far truths trail capacity → Covers room far truths trail capacity
+agrees_covers room far truths trail capacity a =
     record { size = a.size; within = a.within; covered = (λ n h e. sym (a.values n h) ∙ e); spare = a.spare }
 
 All-front : (P : Literal → Type 0) (xs : List Literal) (x : Literal) → AllByRecursion P (xs ++ x ∷ []) → AllByRecursion P xs
@@ -95,37 +283,32 @@ All-last P [] x h = h.0
 All-last P (y ∷ xs) x h = All-last P xs x h.1
 
 -- the last literal of the trail is taken away
-pub covers_pop : (room : ℕ) (truths : List Bool) (trail : List Literal) (capacity n : ℕ) (l : Literal) → packed l ≡ n → Covers room truths (trail ++ l ∷ []) capacity → Covers room (set truths n false) trail capacity
-covers_pop room truths trail capacity n l code a =
+pub covers_pop : (room : ℕ) (far : List ℕ) (truths : List Bool) (trail : List Literal) (capacity n : ℕ) (l : Literal) → packed (placed room far l) ≡ n → Covers room far truths (trail ++ l ∷ []) capacity → Covers room far (set truths n false) trail capacity
+covers_pop room far truths trail capacity n l code a =
     let kept : length (set truths n false) ≡ length truths = length-set truths n false in
-    let bound : packed l < 2 * room + 2 = packed_within l room (All-last (λ l. l.var ≤ room) trail l a.within) in
-    let inside : n < length truths = subst (λ k. k < length truths) code (subst (λ k. packed l < k) (sym a.size) bound) in
+    let bound : packed (placed room far l) < 2 * places room far = number_within room far l (All-last (λ l. HasPlace room far l.var) trail l a.within) in
+    let size : 2 * places room far ≤ length truths = a.size in
+    let inside : n < length truths = omega (arith, code) in
     record {
-      size = kept ∙ a.size;
-      within = All-front (λ l. l.var ≤ room) trail l a.within;
-      covered = (λ m below e. covered_pop truths trail l n code inside a.covered m (subst (λ k. m < k) kept below) e);
+      size = subst (λ k. 2 * places room far ≤ k) (sym kept) size;
+      within = All-front (λ l. HasPlace room far l.var) trail l a.within;
+      covered = (λ m below e. covered_pop m (subst (λ k. m < k) kept below) inside e);
       spare = subst (λ k. k ≤ capacity) (sym kept) a.spare;
     }
   where
-    covered_pop : (truths : List Bool) (trail : List Literal) (l : Literal) (n : ℕ) → packed l ≡ n → n < length truths → ((m : ℕ) → m < length truths → get_or truths m false ≡ true → is_numbered (trail ++ l ∷ []) m ≡ true) → (m : ℕ) → m < length truths → get_or (set truths n false) m false ≡ true → is_numbered trail m ≡ true
-    covered_pop truths trail l n code h covered m below e = by_place (cases_eq m n)
+    covered_pop : (m : ℕ) → m < length truths → n < length truths → get_or (set truths n false) m false ≡ true → is_placed room far trail m ≡ true
+    covered_pop m below inside e = by_place (cases_eq m n)
       where
-        by_place : (m ≡ n) ⊎ (m ≡ n → ⊥) → is_numbered trail m ≡ true
+        by_place : (m ≡ n) ⊎ (m ≡ n → ⊥) → is_placed room far trail m ≡ true
         by_place (inl same) =
-            absurd (false≢true (sym (ap (λ k. get_or (set truths n false) k false) same ∙ get_or-set_same truths n false false h) ∙ e))
+            absurd (false≢true (sym (ap (λ k. get_or (set truths n false) k false) same ∙ get_or-set_same truths n false false inside) ∙ e))
         by_place (inr ne) =
-            sym (or_false (is_numbered trail m) (eqb (packed l) m) (ne_eqb (packed l) m (λ e. ne (sym e ∙ code)))) ∙ sym (is_numbered-push trail l m) ∙ covered m below (sym (get_or-set_other truths n m false false ne) ∙ e)
-
-all_false : (truths : List Bool) → ((n : ℕ) → n < length truths → get_or truths n false ≡ false) → count_by (λ b. b) truths ≡ 0
-all_false [] h = refl
-all_false (true ∷ truths) h = absurd (false≢true (sym (h 0 (omega arith))))
-all_false (false ∷ truths) h = all_false truths (λ n below. h (suc n) (omega arith))
+            sym (or_false (is_placed room far trail m) (eqb (packed (placed room far l)) m) (ne_eqb (packed (placed room far l)) m (λ e. ne (sym e ∙ code)))) ∙ sym (is_placed-push room far trail l m) ∙ a.covered m below (sym (get_or-set_other truths n m false false ne) ∙ e)
 
 -- an empty trail covers no mark
-pub covers_none : (room : ℕ) (truths : List Bool) (capacity : ℕ) → Covers room truths [] capacity → Agrees room truths [] capacity
-covers_none room truths capacity a =
-    let none : (n : ℕ) → n < length truths → get_or truths n false ≡ false = (λ n h. unmarked (get_or truths n false) (a.covered n h)) in
-    record { size = a.size; within = tt; values = none; count = all_false truths none; spare = a.spare }
+covers_none : (room : ℕ) (far : List ℕ) (truths : List Bool) (capacity : ℕ) → Covers room far truths [] capacity → Agrees room far truths [] capacity
+covers_none room far truths capacity a =
+    clear_agrees room far truths capacity a.size (λ n h. unmarked (get_or truths n false) (a.covered n h)) a.spare
   where
     unmarked : (b : Bool) → (b ≡ true → false ≡ true) → b ≡ false
     unmarked true h = absurd (false≢true (h refl))
@@ -136,6 +319,6 @@ no_items [] e = refl
 no_items (x ∷ xs) e = absurd (omega arith)
 
 -- where nothing was left to take away, all marks are gone
-pub cleared : (room : ℕ) (truths : List Bool) (trail rest : List Literal) (capacity capacity' : ℕ) → Covers room truths trail capacity → length trail ≡ 0 → length rest ≡ 0 → capacity' ≡ capacity → Agrees room truths rest capacity'
-cleared room truths trail rest capacity capacity' a e f g =
-    rw (no_items rest f, g) (covers_none room truths capacity (subst (λ t. Covers room truths t capacity) (no_items trail e) a))
+pub cleared : (room : ℕ) (far : List ℕ) (truths : List Bool) (trail rest : List Literal) (capacity capacity' : ℕ) → Covers room far truths trail capacity → length trail ≡ 0 → length rest ≡ 0 → capacity' ≡ capacity → Agrees room far truths rest capacity'
+cleared room far truths trail rest capacity capacity' a e f g =
+    rw (no_items rest f, g) (covers_none room far truths capacity (subst (λ t. Covers room far truths t capacity) (no_items trail e) a))

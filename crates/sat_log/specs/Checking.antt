@@ -2,7 +2,7 @@
 use Rattle.std.specs.Prelude.{◌≡◌, ◌≤◌, ◌&&◌, ◌||◌, ℕ, Bool, true, false, if◌then◌else◌, Option, Some, None, List, [], ◌∷◌, ◌++◌, map}
 use Rattle.std.specs.List.{AllByRecursion}
 use Rattle.sat_log.specs.Literal.{Literal, negated, packed}
-use Rattle.sat_log.specs.Marked.{Marked, is_numbered}
+use Rattle.sat_log.specs.Marked.{Marked, HasPlace, is_numbered}
 use Rattle.sat_log.specs.Accepted.{clause_at}
 use Rattle.sat_log.specs.declared.line.LogLine.{LogLine}
 use Rattle.sat_log.specs.declared.marks.Look.{Look}
@@ -64,7 +64,7 @@ AreUpTo most log = AllByRecursion (λ line. IsUpTo most line.lits) log
 -- what a look says of the marks: a literal that a clause propagates is unset, and there is room for it
 abbrev pub LooksWithin : Marked → Look → Type 0
 LooksWithin marks Falsified = Unit {0}
-LooksWithin marks (Propagates u) = (u.var ≤ marks.room) × (is_set marks.set u ≡ false)
+LooksWithin marks (Propagates u) = HasPlace marks.room marks.far u.var × (is_set marks.set u ≡ false)
 LooksWithin marks Unresolved = Unit {0}
 
 -- a look at what is left of a clause, after a literal that is unset, if there was one
@@ -75,4 +75,4 @@ look_after set (Some u) c = look_on set u c
 -- the literal that was found unset is unset, and there is room for it
 abbrev pub IsOpenLiteral : Marked → Option Literal → Type 0
 IsOpenLiteral marks None = Unit {0}
-IsOpenLiteral marks (Some u) = (u.var ≤ marks.room) × (is_set marks.set u ≡ false)
+IsOpenLiteral marks (Some u) = HasPlace marks.room marks.far u.var × (is_set marks.set u ≡ false)

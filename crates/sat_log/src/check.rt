@@ -6,7 +6,8 @@ ghost use Rattle.std.specs.Option.{option_copied};
 ghost use Rattle.sat_log.specs.Literal.{negated};
 ghost use Rattle.sat_log.specs.Clause.{AreLiterals};
 ghost use Rattle.sat_log.specs.Accepted.{Accepts, clause_at, line_at};
-ghost use Rattle.sat_log.specs.Checking.{IsUpTo, AreUpTo, can_assume, look, refutes, accepts, LooksWithin};
+ghost use Rattle.sat_log.specs.Checking.{IsUpTo, can_assume, look, refutes, accepts, LooksWithin};
+ghost use Rattle.sat_log.specs.Marked.{HasRoomFor, HasRoomForAll};
 ghost use Rattle.sat_log.specs.Reading.{all_named};
 
 use crate::marks::{Look, Marks};
@@ -47,10 +48,11 @@ pub(crate) fn last_variable(literals: &[SLit]) -> u64
 
 /// Sets all of these literals false, up to the first whose variable is set already.
 fn assume_false(marks: &mut Marks, literals: &[SLit]) -> bool
-    requires { IsUpTo marks.old.room literals.now }
+    requires { HasRoomFor marks.old literals.now }
     ensures value { result ≡ can_assume marks.old.set literals.now }
     ensures set { OnTrue result (marks.new.set ≡ marks.old.set ++ map negated literals.now) }
     ensures room { marks.new.room ≡ marks.old.room }
+    ensures far { marks.new.far ≡ marks.old.far }
 {
     for &literal in literals {
         let negation = literal.negated();
@@ -64,7 +66,7 @@ fn assume_false(marks: &mut Marks, literals: &[SLit]) -> bool
 
 /// What the clause is under the marks.
 fn look(marks: &Marks, clause: &[SLit]) -> Look
-    requires { IsUpTo marks.now.room clause.now }
+    requires { HasRoomFor marks.now clause.now }
     ensures value { result ≡ look marks.now.set clause.now }
     ensures within { LooksWithin marks.now result }
 {
@@ -87,9 +89,10 @@ fn look(marks: &Marks, clause: &[SLit]) -> Look
 /// Whether each hint but the last is unit in its turn, and the last is false. The literals that the
 /// units set stay set.
 fn refutes(marks: &mut Marks, lines: &[LogLine], hints: &[u64]) -> bool
-    requires { AreUpTo marks.old.room lines.now }
+    requires { HasRoomForAll marks.old lines.now }
     ensures value { result ≡ refutes lines.now marks.old.set hints.now }
     ensures room { marks.new.room ≡ marks.old.room }
+    ensures far { marks.new.far ≡ marks.old.far }
 {
     for (i, &id) in hints.iter().enumerate() {
         let Some(clause) = clause_at(lines, id) else {
@@ -107,10 +110,11 @@ fn refutes(marks: &mut Marks, lines: &[LogLine], hints: &[u64]) -> bool
 /// Whether the line is accepted after these lines. What is set on the way stays set.
 fn follows(marks: &mut Marks, lines: &[LogLine], line: &LogLine) -> bool
     requires clear { marks.old.set ≡ [] }
-    requires line { IsUpTo marks.old.room line.now.lits }
-    requires lines { AreUpTo marks.old.room lines.now }
+    requires line { HasRoomFor marks.old line.now.lits }
+    requires lines { HasRoomForAll marks.old lines.now }
     ensures value { result ≡ accepts lines.now line.now }
     ensures room { marks.new.room ≡ marks.old.room }
+    ensures far { marks.new.far ≡ marks.old.far }
 {
     assume_false(marks, line.lits.as_slice()) && refutes(marks, lines, line.hints.as_slice())
 }
@@ -118,8 +122,8 @@ fn follows(marks: &mut Marks, lines: &[LogLine], line: &LogLine) -> bool
 /// Whether the line is accepted after these lines. The marks are clear afterwards, as before.
 pub(crate) fn accepts_line(lines: &[LogLine], line: &LogLine, marks: &mut Marks) -> bool
     requires clear { marks.old.set ≡ [] }
-    requires line { IsUpTo marks.old.room line.now.lits }
-    requires lines { AreUpTo marks.old.room lines.now }
+    requires line { HasRoomFor marks.old line.now.lits }
+    requires lines { HasRoomForAll marks.old lines.now }
     ensures answer { IsTrue result ↔ Accepts lines.now line.now }
     ensures marks { marks.new ≡ marks.old }
 {
@@ -131,7 +135,7 @@ pub(crate) fn accepts_line(lines: &[LogLine], line: &LogLine, marks: &mut Marks)
 /// Whether no variable stands twice among the literals. The marks are clear afterwards, as before.
 pub(crate) fn is_distinct(literals: &[SLit], marks: &mut Marks) -> bool
     requires clear { marks.old.set ≡ [] }
-    requires room { IsUpTo marks.old.room literals.now }
+    requires room { HasRoomFor marks.old literals.now }
     ensures value { result ≡ can_assume [] literals.now }
     ensures marks { marks.new ≡ marks.old }
 {

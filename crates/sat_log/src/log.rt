@@ -53,13 +53,22 @@ impl<T: Drop> From<AllocFailed<T>> for AppendFault {
     }
 }
 
+/// Up to which variable a log of so many lines has the marks of a variable at its number. The table of
+/// those marks is thus as long as the log, but for a fixed length, however great the variables are.
+fn near_limit(lines: usize) -> u64 {
+    (lines as u64).saturating_mul(2).saturating_add(1 << 16)
+}
+
 /// A log of clauses: originals, and lines of which each follows from the clauses before it, which
 /// was checked when it was appended. Lines have ids from 1.
 #[derive(Debug, Drop)]
 pub struct Log {
     alloc: Global,
     lines: Vec<LogLine>,
+    /// They are clear, and have room for the variables of the lines.
     marks: Marks,
+    /// No variable of the lines is past this one.
+    last: u64,
 }
 
 impl Model for Log {
@@ -71,7 +80,7 @@ impl Model for Log {
 
     ghost view = { λ l. l.lines.items };
 
-    ghost invariant = { λ l. KeepsLog l.lines.items l.marks };
+    ghost invariant = { λ l. KeepsLog l.lines.items l.marks l.last };
 }
 
 impl Log {
@@ -87,6 +96,7 @@ impl Log {
             alloc,
             lines: Vec::new(alloc),
             marks: Marks::new(alloc, 0)?,
+            last: 0,
         })
     }
 
@@ -107,9 +117,11 @@ impl Log {
             lits: lits.copy(self.alloc)?,
             hints: Ids::new(self.alloc),
         };
-        self.marks
-            .make_room(self.alloc, last_variable(line.lits.as_slice()))?;
+        let limit = near_limit(self.lines.len());
+        self.marks.make_room_for(line.lits.as_slice(), limit)?;
+        let last = last_variable(line.lits.as_slice()).max(self.last);
         self.lines.push(line)?;
+        self.last = last;
         Ok(self.lines.len() as u64)
     }
 
@@ -127,12 +139,14 @@ impl Log {
         ensures id { IfOk result (λ id. id ≡ length self.new) }
         ensures err { OnErr result (self.new ≡ self.old) }
     {
-        self.marks
-            .make_room(self.alloc, last_variable(line.lits.as_slice()))?;
+        let limit = near_limit(self.lines.len());
+        self.marks.make_room_for(line.lits.as_slice(), limit)?;
         if !accepts_line(self.lines.as_slice(), &line, &mut self.marks) {
             return Err(AppendFault::NotAccepted);
         }
+        let last = last_variable(line.lits.as_slice()).max(self.last);
         self.lines.push(line)?;
+        self.last = last;
         Ok(self.lines.len() as u64)
     }
 
@@ -146,12 +160,14 @@ impl Log {
         if line.lits.len() == 0 || line.hints.len() > 0 {
             return Err(AppendFault::NotAccepted);
         }
-        self.marks
-            .make_room(self.alloc, last_variable(line.lits.as_slice()))?;
+        let limit = near_limit(self.lines.len());
+        self.marks.make_room_for(line.lits.as_slice(), limit)?;
         if !is_distinct(line.lits.as_slice(), &mut self.marks) {
             return Err(AppendFault::NotAccepted);
         }
+        let last = last_variable(line.lits.as_slice()).max(self.last);
         self.lines.push(line)?;
+        self.last = last;
         Ok(())
     }
 
@@ -239,7 +255,7 @@ impl Log {
     pub fn variables(&self) -> u64
         ensures { AreUpTo result self.now }
     {
-        self.marks.room()
+        self.last
     }
 }
 

@@ -37,6 +37,8 @@ fn reads_logs_and_writes_them_again(rt: HostRuntime) -> Result<(), AllocError> {
         "log 1\n1 o 1 0\n2 o -1 0\n3 f 0 1 2 0\nend 3\n",
         "log 1\n1 o 1 0\n2 o -1 2 0\n3 f 2 0 1 2 0\n4 c 2 0 1 2 0\nend 4\n",
         "log 1\n1 o 5 4 3 2 1 -6 0\nend 1\n",
+        "log 1\n1 o 9223372036854775807 0\n2 o -9223372036854775807 0\n3 c 0 2 1 0\nend 3\n",
+        "log 1\n1 o 70000 -80000 0\n2 o 80000 3 0\n3 c 3 70000 0 1 2 0\nend 3\n",
     ];
     for text in rows {
         let text = text.as_bytes();

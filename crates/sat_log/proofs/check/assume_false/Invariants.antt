@@ -8,4 +8,5 @@ invariant-loop-literal l = record {
   rest : can_assume l.marks.set (drop l.literal-index l.literals) ≡ can_assume l.initial.marks.set l.literals;
   so_far : l.marks.set ≡ l.initial.marks.set ++ map negated (take l.literal-index l.literals);
   room : l.marks.room ≡ l.initial.marks.room;
+  far : l.marks.far ≡ l.initial.marks.far;
 }

@@ -6,4 +6,5 @@ abbrev pub invariant-loop-i : goal.invariant-loop-i
 invariant-loop-i l = record {
   rest : refutes l.lines l.marks.set (drop l.i l.hints) ≡ refutes l.lines l.initial.marks.set l.hints;
   room : l.marks.room ≡ l.initial.marks.room;
+  far : l.marks.far ≡ l.initial.marks.far;
 }

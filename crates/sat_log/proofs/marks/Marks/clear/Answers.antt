@@ -7,4 +7,4 @@ invariant_of-self c =
     let m = c.loop-literal.self-inside in
     let before : length m.trail.items ≡ 0 = omega (arith, c.in_default.ensures.cases, m.trail.ok.0) in
     let after : length c.pop.new.self.items ≡ 0 = omega (arith, c.in_default.ensures.cases, c.pop.new.self.ok.0) in
-    cleared m.room m.truths.items m.trail.items c.pop.new.self.items _ _ c.loop-literal.invariant.0 before after c.pop.ensures.capacity
+    cleared m.room m.far.keys m.truths.items m.trail.items c.pop.new.self.items _ _ c.loop-literal.invariant.covers before after c.pop.ensures.capacity
