@@ -10,4 +10,5 @@ pub mod PieceLemmas
 pub mod ReadLemmas
 pub mod PageLaws
 pub mod SplitLaws
+pub mod LineFaults
 pub mod FaultLaws
