@@ -1,5 +1,5 @@
 -- When a line follows from the clauses before it, by unit propagation over its hints.
-use Rattle.std.specs.Prelude.{Bool, is_some, ◌≡◌, ◌≢◌, ◌==◌, ◌-◌, ℕ, Option, Some, None, if◌then◌else◌, List, [], ◌∷◌, ◌++◌, map, slice_get, option_to_list}
+use Rattle.std.specs.Prelude.{◌≡◌, ◌≢◌, ◌==◌, ◌-◌, ℕ, Option, Some, None, if◌then◌else◌, List, [], ◌∷◌, ◌++◌, map, slice_get, option_to_list}
 use Rattle.std.specs.Option.{option_and_then}
 use Rattle.sat_log.specs.Literal.{Literal, negated}
 use Rattle.sat_log.specs.Clause.{HasDistinctVariables, AreLiterals, IsFalsified, IsUnit}
@@ -64,10 +64,6 @@ abbrev pub given : LineKind → List Literal → Option (List Literal)
 given Original c = Some c
 given Conflict c = None
 given Final c = None
-
--- whether the line is an original clause
-abbrev pub is_given : LogLine → Bool
-is_given line = is_some (given line.kind line.lits)
 
 -- the original clauses of a log
 abbrev pub originals : List LogLine → List (List Literal)

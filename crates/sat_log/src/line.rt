@@ -1,5 +1,5 @@
-ghost use Rattle.std.specs.Prelude.{◌≡◌};
-ghost use Rattle.sat_log.specs.Accepted.{is_given};
+ghost use Rattle.std.specs.Prelude.{◌≡◌, ◌≤◌, length, option_to_list};
+ghost use Rattle.sat_log.specs.Accepted.{given, originals};
 
 use crate::{Ids, SLits};
 
@@ -23,11 +23,24 @@ pub struct LogLine {
     pub hints: Ids,
 }
 
-impl LogLine {
-    /// Whether the line is a clause that was given.
-    pub fn is_original(&self) -> bool
-        ensures { result ≡ is_given self.now }
-    {
-        matches!(self.kind, LineKind::Original)
+/// How many original clauses a line gives.
+fn originals_of(line: &LogLine) -> u64
+    ensures value { result ≡ length (option_to_list (given line.now.kind line.now.lits)) }
+    ensures one { result ≤ 1 }
+{
+    match line.kind {
+        LineKind::Original => 1,
+        LineKind::Conflict | LineKind::Final => 0,
     }
+}
+
+/// How many original clauses the lines give.
+pub(crate) fn count_originals(lines: &[LogLine]) -> u64
+    ensures { result ≡ length (originals lines.now) }
+{
+    let mut count = 0;
+    for line in lines {
+        count += originals_of(line);
+    }
+    count
 }

@@ -1,9 +1,9 @@
-ghost use Rattle.std.specs.Prelude.{count_by, List, ◌⊎◌, ◌≡◌, ◌≢◌, ◌++◌, ◌∷◌, ◌↔◌, ◌≤◌, ◌<◌, ◌^◌, [], true, false, length, min, IsTrue, IfOk, IfErr, OnOk, OnErr};
+ghost use Rattle.std.specs.Prelude.{List, ◌⊎◌, ◌≡◌, ◌≢◌, ◌++◌, ◌∷◌, ◌↔◌, ◌≤◌, ◌<◌, ◌^◌, [], true, false, length, min, IsTrue, IfOk, IfErr, OnOk, OnErr};
 ghost use Rattle.std.specs.Option.{option_copied};
 ghost use Rattle.std.specs.Io.KnownBytes.{append_known};
 ghost use Rattle.outside.specs.Told.{HasRisen, AddsFront};
 ghost use Rattle.sat_log.specs.Clause.{HasDistinctVariables};
-ghost use Rattle.sat_log.specs.Accepted.{Accepts, IsLog, is_given, line_at};
+ghost use Rattle.sat_log.specs.Accepted.{Accepts, IsLog, line_at, originals};
 ghost use Rattle.sat_log.specs.Checking.{IsUpTo, AreUpTo, accepts};
 ghost use Rattle.sat_log.specs.Kept.{original};
 ghost use Rattle.sat_log.specs.LogText.{text_of, IsTextOf};
@@ -15,6 +15,7 @@ ghost use Rattle.sat_log.specs.declared.line.LineKind.TheVariants.{Original};
 ghost use Rattle.sat_log.specs.declared.line.LogLine.{LogLine};
 
 use crate::check::{accepts_line, all_named, is_distinct, last_variable, line_at};
+use crate::line::count_originals;
 use crate::read::read;
 use crate::write::{put_log, text_len};
 use crate::{Ids, LineKind, LogFault, LogLine, Marks, SLits};
@@ -220,14 +221,11 @@ impl Log {
         self.lines.len() as u64
     }
 
-    /// How many lines are original clauses.
-    pub fn originals(&self) -> u64
-        ensures { result ≡ count_by is_given self.now }
+    /// How many of its lines are originals.
+    pub fn count_originals(&self) -> u64
+        ensures { result ≡ length (originals self.now) }
     {
-        self.lines
-            .iter()
-            .filter(|line| line.is_original())
-            .count() as u64
+        count_originals(self.lines.as_slice())
     }
 
     /// How long the text of the log is, or 18446744073709551615 if it is longer.

@@ -246,6 +246,7 @@ fn takes_what_it_accepts(rt: HostRuntime) -> Result<(), Fail> {
     assert!(rt; log.append(unit(alloc, 1, 1)?).is_err());
     assert!(rt; log.append(unit(alloc, 2, 1)?).is_ok());
     assert_eq!(rt; log.count(), 3);
+    assert_eq!(rt; log.count_originals(), 2);
     assert_eq!(rt; log.text_len(), 45);
     assert!(rt; log.line(3).is_some());
     assert!(rt; log.line(4).is_none());
