@@ -1,0 +1,5 @@
+pub mod Filling
+pub mod Groups
+pub mod Splitting
+pub mod Starts
+pub mod Unfolding

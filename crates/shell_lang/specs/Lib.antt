@@ -1,0 +1,11 @@
+pub mod Bytes
+pub mod Fault
+pub mod Filled
+pub mod Grouped
+pub mod Keyed
+pub mod Known
+pub mod Lines
+pub mod Marks
+pub mod Past
+pub mod Recall
+pub mod Runs
