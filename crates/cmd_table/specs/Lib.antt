@@ -1,0 +1,5 @@
+pub mod Distinct
+pub mod Fault
+pub mod Options
+pub mod Steps
+pub mod Words
