@@ -1,7 +1,7 @@
 -- The command that checks the log in a file.
-use Rattle.std.specs.Prelude.{◌≡◌, ◌⊎◌, ◌-◌, ℕ, List, length, count_by, Result, Ok, Err, ⊤}
+use Rattle.std.specs.Prelude.{◌≡◌, ◌⊎◌, ◌-◌, ℕ, List, length, Result, Ok, Err, ⊤}
 use Rattle.outside.specs.declared.files.FileFault.{FileFault}
-use Rattle.sat_log.specs.Accepted.{IsLog, is_given}
+use Rattle.sat_log.specs.Accepted.{IsLog, originals}
 use Rattle.sat_log.specs.LogText.{IsTextOf}
 use Rattle.sat_log.specs.TextFault.{HasFault}
 use Rattle.sat_log.specs.declared.line.LogLine.{LogLine}
@@ -18,7 +18,7 @@ log_limit = 268435456
 -- what is said of a log's text: how many of its lines are originals and how many follow from those before them, or its first fault
 abbrev pub ChecksText : List ℕ → Event → Type 0
 ChecksText text (LogAccepted given learned) =
-    (log : List LogLine) × IsTextOf log text × IsLog log × (given ≡ count_by is_given log) × (learned ≡ length log - given)
+    (log : List LogLine) × IsTextOf log text × IsLog log × (given ≡ length (originals log)) × (learned ≡ length log - given)
 ChecksText text (Refused (refusal.BadLog fault)) = HasFault text fault
 ChecksText text (Refused refusal.NoMemory) = ⊤
 ChecksText text _ = ⊥

@@ -16,7 +16,7 @@ fn check(alloc: Global, text: &[u8]) -> Event
 {
     match read_text(alloc, text) {
         Ok(log) => {
-            let originals = log.originals();
+            let originals = log.count_originals();
             Event::LogAccepted(originals, log.count().saturating_sub(originals))
         }
         Err(LogFault::NoMemory(_)) => Event::Refused(Refusal::NoMemory),
