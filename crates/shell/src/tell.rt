@@ -47,11 +47,7 @@ fn log_fault_pieces<'a>(fault: &LogFault, number: &'a [u8]) -> [&'a [u8]; PARTS]
     ensures { flat_map (λ p. p.now) result ≡ log_fault_text fault.now }
 {
     match fault {
-        LogFault::BadNumber(_) => three(
-            b"error 501: line ",
-            number,
-            b": bad number or word\n",
-        ),
+        LogFault::BadNumber(_) => three(b"error 501: line ", number, b": bad number or word\n"),
         LogFault::MissingZero(_) => three(b"error 502: line ", number, b": missing 0\n"),
         LogFault::BadHint(_) => three(
             b"error 503: line ",
@@ -186,7 +182,10 @@ fn numbers(event: &Event) -> (u64, u64, u64)
 fn is_output(event: &Event) -> bool
     ensures { result ≡ is_output event.now }
 {
-    matches!(event, Event::Executed(_) | Event::Stops(_, _) | Event::LogAccepted(_, _))
+    matches!(
+        event,
+        Event::Executed(_) | Event::Stops(_, _) | Event::LogAccepted(_, _)
+    )
 }
 
 /// Writes the text of an event to the sink that is given.
