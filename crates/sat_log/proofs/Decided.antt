@@ -13,7 +13,7 @@ use Rattle.sat_log.specs.declared.marks.Look.TheVariants.{Falsified, Propagates,
 
 -- Literals are told apart by their numbers.
 
-abbrev literal_of : ℕ → Bool → Literal
+abbrev pub literal_of : ℕ → Bool → Literal
 literal_of var negative = record { var = var; negative = negative }
 
 pub literal_by_parts : (a b : Literal) → a.var ≡ b.var → a.negative ≡ b.negative → a ≡ b
@@ -36,7 +36,7 @@ packed_injective a b e = by_signs a.negative b.negative refl refl
         let x : 2 * a.var + 0 ≡ 2 * b.var + 1 = sym (ap (λ s. 2 * a.var + cond {A = ℕ} s 1 0) p) ∙ e ∙ ap (λ s. 2 * b.var + cond {A = ℕ} s 1 0) q in
         absurd (omega arith)
 
-among_from_set : (set : List Literal) (l : Literal) → is_set set l ≡ true → Among set l
+pub among_from_set : (set : List Literal) (l : Literal) → is_set set l ≡ true → Among set l
 among_from_set [] l e = absurd (false≢true e)
 among_from_set (x ∷ set) l e = by_first (eqb (packed x) (packed l)) refl e (among_from_set set l)
   where
@@ -57,7 +57,7 @@ set_from_among (x ∷ set) l (inr m) = or_right_true (eqb (packed x) (packed l))
 not_among : (set : List Literal) (l : Literal) → is_set set l ≡ false → ¬ Among set l
 not_among set l e m = false≢true (sym e ∙ set_from_among set l m)
 
-unset_from : (set : List Literal) (l : Literal) → ¬ Among set l → is_set set l ≡ false
+pub unset_from : (set : List Literal) (l : Literal) → ¬ Among set l → is_set set l ≡ false
 unset_from set l none = by_value (is_set set l) refl
   where
     by_value : (b : Bool) → is_set set l ≡ b → is_set set l ≡ false

@@ -102,7 +102,7 @@ Satisfies-append : (v : ℕ → Bool) (cs ds : List (List Literal)) → Satisfie
 Satisfies-append v [] ds h hs = hs
 Satisfies-append v (c ∷ cs) ds h hs = (h.0, Satisfies-append v cs ds h.1 hs)
 
-clauses-append : (log lines : List LogLine) → clauses (log ++ lines) ≡ clauses log ++ clauses lines
+pub clauses-append : (log lines : List LogLine) → clauses (log ++ lines) ≡ clauses log ++ clauses lines
 clauses-append [] lines = refl
 clauses-append (line ∷ log) lines =
     ap (λ cs. option_to_list (hinted line.kind line.lits) ++ cs) (clauses-append log lines) ∙ sym (append_assoc (option_to_list (hinted line.kind line.lits)) (clauses log) (clauses lines))

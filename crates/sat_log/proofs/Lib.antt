@@ -1,5 +1,6 @@
 pub mod Implied
 pub mod NeededFresh
+pub mod FreshBound
 pub mod MarkLemmas
 pub mod Decided
 pub mod LogLemmas

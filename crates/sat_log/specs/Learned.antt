@@ -1,9 +1,11 @@
 -- What a solver's conflict lines are beyond accepted: fresh, needed and drawn.
-use Rattle.std.specs.Prelude.{◌≡◌, ◌≢◌, ◌⊎◌, ℕ, Some, List, [], ◌∷◌, ◌++◌, map}
+use Rattle.std.specs.Prelude.{◌≡◌, ◌≢◌, ◌⊎◌, ℕ, Option, Some, None, List, [], ◌∷◌, ◌++◌, map, option_to_list}
 use Rattle.std.specs.List.{AllByRecursion}
 use Rattle.sat_log.specs.Literal.{Literal, negated}
 use Rattle.sat_log.specs.Clause.{Among, IsWithin, IsUnset, IsUnit, IsConsistent}
-use Rattle.sat_log.specs.Accepted.{clause_at}
+use Rattle.sat_log.specs.Accepted.{clause_at, clauses}
+use Rattle.sat_log.specs.declared.line.LineKind.{LineKind}
+use Rattle.sat_log.specs.declared.line.LineKind.TheVariants.{Original, Conflict, Final}
 use Rattle.sat_log.specs.declared.line.LogLine.{LogLine}
 
 -- no clause before it has all its literals in the line
@@ -60,3 +62,27 @@ EachIsUsed log set (id ∷ next ∷ ids) =
 pub record IsDrawn (log : List LogLine) (line : LogLine) : Type 0 where
   pub literals : AllByRecursion (StandsInSome log line.hints) line.lits
   pub used : EachIsUsed log (map negated line.lits) line.hints
+
+-- What a log has learned since some place: the conflict lines among the lines that it gained.
+
+-- the clause that a conflict line gives
+abbrev pub learned : LineKind → List Literal → Option (List Literal)
+learned Original c = None
+learned Conflict c = Some c
+learned Final c = None
+
+-- the clauses of the conflict lines
+abbrev pub conflicts : List LogLine → List (List Literal)
+conflicts [] = []
+conflicts (line ∷ lines) = option_to_list (learned line.kind line.lits) ++ conflicts lines
+
+-- a conflict line is fresh; nothing is asked of lines of other kinds
+abbrev pub IsFreshOfKind : LineKind → List LogLine → List Literal → Type 0
+IsFreshOfKind Original log c = Unit {0}
+IsFreshOfKind Conflict log c = IsFresh (clauses log) c
+IsFreshOfKind Final log c = Unit {0}
+
+-- each conflict line that was gained is fresh over the clauses before it
+abbrev pub AllFresh : List LogLine → List LogLine → Type 0
+AllFresh before [] = Unit {0}
+AllFresh before (line ∷ gained) = IsFreshOfKind line.kind before line.lits × AllFresh (before ++ line ∷ []) gained

@@ -1,10 +1,11 @@
 //! Laws of the definitions, each the contract of a function that does nothing.
 
-ghost use Rattle.std.specs.Prelude.{ℕ, Bool, List, IsTrue};
+ghost use Rattle.std.specs.Prelude.{◌≤◌, ◌^◌, ◌++◌, ℕ, Bool, List, length, IsTrue};
 ghost use Rattle.sat_log.specs.Literal.{Literal};
 ghost use Rattle.sat_log.specs.Clause.{Satisfies, clause_value};
 ghost use Rattle.sat_log.specs.Accepted.{IsLog, Accepts, originals, clauses};
-ghost use Rattle.sat_log.specs.Learned.{IsFresh, IsNeeded};
+ghost use Rattle.sat_log.specs.Checking.{AreUpTo};
+ghost use Rattle.sat_log.specs.Learned.{IsFresh, IsNeeded, AllFresh, conflicts};
 ghost use Rattle.sat_log.specs.declared.line.LogLine.{LogLine};
 
 /// Where the originals of a log are true, so are its conflict lines.
@@ -24,4 +25,12 @@ pub fn accepted_line_is_implied()
 pub fn needed_line_is_fresh()
     ensures { (before : List (List Literal)) (c : List Literal) →
         IsNeeded before c → IsFresh before c }
+{}
+
+/// Fresh conflict lines over `n` variables are at most `3 ^ n`: each variable is positive in a line, negative, or absent, and of
+/// two lines with the same choices each contains the other.
+pub fn fresh_lines_are_few()
+    ensures { (n : ℕ) (before gained : List LogLine) →
+        IsLog (before ++ gained) → AreUpTo n gained → AllFresh before gained →
+        length (conflicts gained) ≤ 3 ^ n }
 {}
