@@ -4,7 +4,7 @@ use Rattle.std.specs.List.{list_any}
 use Rattle.std.specs.Ordering.{int_eq}
 use Rattle.std.specs.Int.{int_div_euclid}
 use Rattle.std.specs.Str.{bytes_eq}
-use Rattle.smv_tree.specs.Word.{Word}
+use Rattle.smv_tree.specs.Word.{Word, is_high, number_of}
 use Rattle.smv_tree.specs.declared.value.Value.{Value}
 use Rattle.smv_tree.specs.declared.value.Value.TheVariants.{Truth, Int, Sym, Word as Bits}
 use Rattle.smv_tree.specs.declared.expr.Op1.{Op1}
@@ -20,14 +20,6 @@ wrap n (negsuc a) = 2 ^ n - 1 - a % 2 ^ n
 -- the word of this sign and width whose number is z modulo 2 to the width
 abbrev pub word_of : Bool → ℕ → ℤ → Word
 word_of signed width z = record { signed = signed; width = width; bits = wrap width z }
-
--- the highest bit is set
-abbrev pub is_high : Word → Bool
-is_high w = nat_le (2 ^ w.width) (2 * w.bits)
-
--- the number that a word stands for
-abbrev pub number_of : Word → ℤ
-number_of w = if w.signed && is_high w then pos w.bits -ℤ pos (2 ^ w.width) else pos w.bits
 
 -- these bits in a word like w
 abbrev pub with_bits : Word → ℕ → Word

@@ -1,5 +1,5 @@
 -- The twins of formulas, modules and programs, and the way to them.
-use Rattle.std.specs.Prelude.{List, [], ◌∷◌, map, Option, ℕ}
+use Rattle.std.specs.Prelude.{List, map, Option, ℕ}
 use Rattle.smv_tree.specs.declared.place.Place.{Place}
 use Rattle.smv_tree.specs.declared.formula.FormOp.{FormOp}
 use Rattle.smv_tree.specs.declared.formula.Formula.{Formula, Formula-F, fold-Formula}

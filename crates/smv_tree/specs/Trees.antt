@@ -1,10 +1,10 @@
 -- The twins of the trees, which hold no pointers, and the way from a tree to its twin.
-use Rattle.std.specs.Prelude.{ℕ, ℤ, Bool, List, [], ◌∷◌, map}
+use Rattle.std.specs.Prelude.{ℕ, ℤ, Bool, List, [], ◌∷◌}
 use Rattle.smv_tree.specs.declared.place.Place.{Place}
 use Rattle.smv_tree.specs.declared.expr.Op1.{Op1}
 use Rattle.smv_tree.specs.declared.expr.Op2.{Op2}
 use Rattle.smv_tree.specs.declared.expr.Expr.{Expr, Expr-F, fold-Expr}
-use Rattle.smv_tree.specs.declared.expr.Branch.{Branch, Branch-F}
+use Rattle.smv_tree.specs.declared.expr.Branch.{Branch-F}
 use Rattle.smv_tree.specs.Word.{Word}
 
 mutual

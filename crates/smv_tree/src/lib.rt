@@ -19,4 +19,4 @@ pub use place::Place;
 pub use program::{
     Item, Items, Kind, Module, Modules, Moment, Param, Params, Program, Section, TypeSyntax,
 };
-pub use value::{Ty, Value, Values, WordVal};
+pub use value::{Ty, Value, Values, WordVal, word_value};

@@ -1,4 +1,7 @@
-ghost use Rattle.std.specs.Prelude.{◌≡◌, ◌<◌, ◌^◌};
+ghost use Rattle.std.specs.Prelude.{◌≡◌, ◌⊎◌, ◌<◌, ◌*◌, ◌^◌, None, IfSome};
+ghost use Rattle.std.specs.Int.{is_negative};
+ghost use Rattle.std.specs.Prelude.{unsigned_abs};
+ghost use Rattle.smv_tree.specs.Word.{number_of};
 
 use crate::Name;
 use std::marker::Model;
@@ -58,6 +61,40 @@ impl WordVal {
     {
         self.bits
     }
+}
+
+/// What the highest bit of a word of this width counts, if there is one and it fits.
+fn highest_bit(width: u8) -> Option<u128>
+    ensures fits { IfSome result (λ high. 2 * high ≡ 2 ^ width) }
+    ensures lacks { result ≡ None → (width ≡ 0) ⊎ (128 < width) }
+{
+    if width > 0 && width <= 128 {
+        Some(1 << (width - 1))
+    } else {
+        None
+    }
+}
+
+/// The number that these bits stand for: whether it is below zero, and its magnitude.
+#[tactic(auto, using(crate::proofs::Words::wide_is_natural))]
+fn number(signed: bool, width: u8, bits: u128) -> (bool, u128)
+    requires { bits < 2 ^ width }
+    ensures sign { result.0 ≡ is_negative (number_of (record { signed = signed; width = width; bits = bits })) }
+    ensures magnitude { result.1 ≡ unsigned_abs (number_of (record { signed = signed; width = width; bits = bits })) }
+{
+    match highest_bit(width) {
+        Some(high) if signed && bits >= high => (true, high - (bits - high)),
+        Some(_) => (false, bits),
+        None => (false, bits),
+    }
+}
+
+/// The number that a word stands for: whether it is below zero, and its magnitude.
+pub fn word_value(w: &WordVal) -> (bool, u128)
+    ensures sign { result.0 ≡ is_negative (number_of w.now) }
+    ensures magnitude { result.1 ≡ unsigned_abs (number_of w.now) }
+{
+    number(w.signed, w.width, w.bits)
 }
 
 /// A value of a variable or of an expression.
