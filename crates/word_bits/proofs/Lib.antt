@@ -1,0 +1,4 @@
+pub mod Numbers
+pub mod Products
+pub mod Shifts
+pub mod Circuits

@@ -1,0 +1,132 @@
+-- Arithmetic of products, rows and remainders.
+use Rattle.std.proofs.Common.{◌≡◌, ℕ, zero, suc, ◌+◌, ◌*◌, ◌-◌, ◌^◌, ◌<◌, ◌≤◌, ◌/◌, ◌%◌, Bool, true, false, cond, List, [], ◌∷◌, ◌++◌, length, get_or, take, drop, replicate, sym, ap, ◌∙◌, subst, add-one, arith}
+use Rattle.std.proofs.lemmas.List.{take-append-drop, length-take-le, length-drop, length-append, drop_more}
+use Rattle.std.proofs.lemmas.Nat.{div-add-mod', pow-add}
+use Rattle.std.proofs.Math.Nat.{mul_comm, add-mod, mod-mod}
+use Rattle.gates.specs.declared.node.Node.{Node}
+use Rattle.gates.specs.Literal.{Literal, negated, always}
+use Rattle.word_bits.specs.Number.{digit}
+use Rattle.word_bits.specs.Words.{unsigned}
+use Rattle.gates.specs.Valuation.{value_of, IsValuation}
+use Rattle.word_bits.proofs.Numbers.{unsigned-zeros, pow_more, unsigned-append, unsigned-below, remainder_from_carry}
+
+row_added : (p q l h f g s c d : ℕ) → s + q * c ≡ h + d * f → l + p * s + p * q * (c + d * g) ≡ l + p * h + p * d * (f + q * g)
+row_added p q l h f g s c d row = let e = ap (λ n. p * n) row in grind (arith, e)
+
+cond-digit : (d : Bool) (n : ℕ) → cond d n 0 ≡ digit d * n
+cond-digit true n = omega arith
+cond-digit false n = omega arith
+
+-- the number of a list from those of its front and its rest
+pub unsigned-parts : (values : List Bool) (xs : List Literal) (n : ℕ) → n ≤ length xs → unsigned values xs ≡ unsigned values (take n xs) + 2 ^ n * unsigned values (drop n xs)
+unsigned-parts values xs n h =
+    ap (unsigned values) (sym (take-append-drop n xs)) ∙ unsigned-append values (take n xs) (drop n xs)
+    ∙ ap (λ m. unsigned values (take n xs) + 2 ^ m * unsigned values (drop n xs)) (length-take-le n xs h)
+
+-- what a row adds
+pub row_spelled : (values : List Bool) (product a low high part row sum r : List Literal) (at : ℕ) (d : Bool)
+    → at < length a → length product ≡ length a → low ≡ take at product → high ≡ drop at product → part ≡ take (length a - at) a
+    → unsigned values row ≡ cond d (unsigned values part) 0
+    → unsigned values sum ≡ (unsigned values high + unsigned values row) % 2 ^ length high → length sum ≡ length high → r ≡ low ++ sum
+    → unsigned values r ≡ (unsigned values product + 2 ^ at * digit d * unsigned values a) % 2 ^ length a
+row_spelled values product a low high part row sum r at d h same is_low is_high is_part is_row is_sum len is =
+    let n = length a in
+    let low_len : length low ≡ at = ap length is_low ∙ length-take-le at product (omega arith) in
+    let high_len : length high ≡ n - at = omega (arith, ap length is_high, length-drop at product) in
+    let p = 2 ^ at in
+    let q = 2 ^ (n - at) in
+    let whole : 2 ^ n ≡ p * q = ap (λ m. 2 ^ m) (let e : n ≡ at + (n - at) = omega arith in e) ∙ pow-add 2 at (n - at) in
+    let total = unsigned values high + unsigned values row in
+    let spelled : unsigned values r ≡ unsigned values low + p * unsigned values sum =
+      ap (unsigned values) is ∙ unsigned-append values low sum ∙ ap (λ m. unsigned values low + 2 ^ m * unsigned values sum) low_len in
+    let width : length r ≡ n = omega (arith, ap length is, length-append low sum, low_len, len, high_len) in
+    let below : unsigned values r < 2 ^ n = subst (λ m. unsigned values r < 2 ^ m) width (unsigned-below values r) in
+    let row_is : unsigned values row ≡ digit d * unsigned values part = is_row ∙ cond-digit d (unsigned values part) in
+    let divided : unsigned values sum + q * (total / q) ≡ unsigned values high + digit d * unsigned values part =
+      (let e : unsigned values sum ≡ total % q = is_sum ∙ ap (λ m. total % 2 ^ m) high_len in quotient_first (unsigned values sum) total q e ∙ ap (λ m. unsigned values high + m) row_is) in
+    let rest = drop (n - at) a in
+    let added = row_added p q (unsigned values low) (unsigned values high) (unsigned values part) (unsigned values rest) (unsigned values sum) (total / q) (digit d) divided in
+    let product_is : unsigned values product ≡ unsigned values low + p * unsigned values high =
+      unsigned-parts values product at (omega arith) ∙ sym (λ i. unsigned values (is_low i) + p * unsigned values (is_high i)) in
+    let a_is : unsigned values a ≡ unsigned values part + q * unsigned values rest =
+      unsigned-parts values a (n - at) (omega arith) ∙ sym (ap (λ l. unsigned values l + q * unsigned values rest) is_part) in
+    remainder_from_carry (unsigned values r) (2 ^ n) (total / q + digit d * unsigned values rest) _ below
+      ((λ i. spelled i + whole i * (total / q + digit d * unsigned values rest)) ∙ added
+        ∙ sym (λ i. product_is i + p * digit d * a_is i))
+  where
+    quotient_first : (s t q : ℕ) → s ≡ t % q → s + q * (t / q) ≡ t
+    quotient_first s t q e = omega (arith, e, div-add-mod' t q, mul_comm q (t / q))
+
+-- a row more of a product
+pub mod_row : (a t p d x m : ℕ) → x ≡ (a * t) % m → (x + p * d * a) % m ≡ (a * (t + p * d)) % m
+mod_row a t p d x m e =
+    let z = p * d * a in
+    ap (λ y. (y + z) % m) e ∙ add-mod ((a * t) % m) z m ∙ ap (λ y. (y + z % m) % m) (mod-mod (a * t) m) ∙ sym (add-mod (a * t) z m)
+    ∙ ap (λ y. y % m) (let f : a * t + z ≡ a * (t + p * d) = grind arith in f)
+
+pub zero_product : (a m s : ℕ) → 0 < m → s ≡ 0 → s ≡ (a * 0) % m
+zero_product a m s h e = e ∙ remainder_from_carry 0 m 0 (a * 0) h (let f : 0 + m * 0 ≡ a * 0 = grind arith in f)
+
+-- one digit of a restoring division: x is the shifted remainder, d the divisor with a 0 above it, and s and c their difference and its carry
+restored : (x d s r p : ℕ) (c : Bool) → s + 2 * p * digit c + d ≡ x + 2 * p → s < 2 * p → x < 2 * d → d < p → r ≡ cond c s x → (r + digit c * d ≡ x) × (r < d)
+restored x d s r p true e s_below x_below d_below is = (omega (arith, e, is), omega (arith, e, is))
+restored x d s r p false e s_below x_below d_below is = (omega (arith, e, is), omega (arith, e, is, s_below))
+
+pub divided : (values : List Bool) (remainder divisor lowest shifted difference whole rest : List Literal) (bit : Literal) (digit' : Bool)
+    → length divisor ≡ length remainder + 1 → lowest ≡ bit ∷ [] → shifted ≡ lowest ++ remainder
+    → unsigned values difference + 2 ^ length shifted * digit digit' + unsigned values divisor ≡ unsigned values shifted + 2 ^ length shifted
+    → length difference ≡ length shifted → length whole ≡ length difference
+    → unsigned values whole ≡ cond digit' (unsigned values difference) (unsigned values shifted)
+    → rest ≡ take (length remainder) whole
+    → unsigned values remainder < unsigned values divisor → unsigned values divisor < 2 ^ length remainder
+    → (unsigned values rest + digit digit' * unsigned values divisor ≡ digit (value_of values bit) + 2 * unsigned values remainder) × (unsigned values rest < unsigned values divisor)
+divided values remainder divisor lowest shifted difference whole rest bit digit' widths is_low is_shifted is_difference difference_len whole_len is_whole is_rest below small =
+    let n = length remainder in
+    let p = 2 ^ n in
+    let x = digit (value_of values bit) + 2 * unsigned values remainder in
+    let shifted_is : shifted ≡ bit ∷ remainder = is_shifted ∙ ap (λ l. l ++ remainder) is_low in
+    let x_is : unsigned values shifted ≡ x = ap (unsigned values) shifted_is in
+    let len : length shifted ≡ suc n = ap length shifted_is in
+    let twice : 2 ^ length shifted ≡ 2 * p = ap (λ m. 2 ^ m) (len ∙ sym (add-one n)) ∙ pow_more n in
+    let s = unsigned values difference in
+    let s_below : s < 2 * p = subst (λ m. s < m) (ap (λ m. 2 ^ m) difference_len ∙ twice) (unsigned-below values difference) in
+    let r = restored x (unsigned values divisor) s (unsigned values whole) p digit'
+      (subst (λ m. s + m * digit digit' + unsigned values divisor ≡ x + m) twice (is_difference ∙ ap (λ m. m + 2 ^ length shifted) x_is))
+      s_below (by (value_of values bit) (unsigned values remainder) (unsigned values divisor) below) small
+      (is_whole ∙ ap (λ m. cond digit' s m) x_is) in
+    let whole_width : n ≤ length whole = omega (arith, whole_len, difference_len, len) in
+    let parts = unsigned-parts values whole n whole_width in
+    let low : unsigned values rest ≡ unsigned values whole = ap (unsigned values) is_rest ∙ only_low (unsigned values (take n whole)) (unsigned values (drop n whole)) p (unsigned values whole) parts (omega (arith, r.1, small)) in
+    (ap (λ m. m + digit digit' * unsigned values divisor) low ∙ r.0, omega (arith, low, r.1))
+  where
+    by : (b : Bool) (m d : ℕ) → m < d → digit b + 2 * m < 2 * d
+    by true m d h = omega arith
+    by false m d h = omega arith
+    only_low : (l h p w : ℕ) → w ≡ l + p * h → w < p → l ≡ w
+    only_low l zero p w e k = omega (arith, e)
+    only_low l (suc h) p w e k = absurd (let f : p * suc h ≡ p * h + p = grind arith in omega (arith, e, f, k))
+
+-- a divisor with a 0 above it
+pub unsigned-widened : {nodes : List Node} {values : List Bool} → IsValuation nodes values → (b divisor high : List Literal) → high ≡ replicate 1 (negated always) → divisor ≡ b ++ high → unsigned values divisor ≡ unsigned values b
+unsigned-widened {values = values} v b divisor high is_high is =
+    ap (unsigned values) is ∙ unsigned-append values b high ∙ ap (λ h. unsigned values b + 2 ^ length b * h) (ap (unsigned values) is_high ∙ unsigned-zeros v 1)
+    ∙ (let e : unsigned values b + 2 ^ length b * 0 ≡ unsigned values b = grind arith in e)
+
+-- one more digit of a quotient
+pub divide_more : (values : List Bool) (a b quotient quotient' single remainder rest divisor : List Literal) (i : ℕ) (bit d : Literal) → i < length a
+    → bit ≡ get_or a (length a - 1 - i) always → single ≡ d ∷ [] → quotient' ≡ single ++ quotient → unsigned values divisor ≡ unsigned values b
+    → unsigned values rest + digit (value_of values d) * unsigned values divisor ≡ digit (value_of values bit) + 2 * unsigned values remainder
+    → unsigned values (drop (length a - i) a) ≡ unsigned values quotient * unsigned values b + unsigned values remainder
+    → unsigned values (drop (length a - (i + 1)) a) ≡ unsigned values quotient' * unsigned values b + unsigned values rest
+divide_more values a b quotient quotient' single remainder rest divisor i bit d h at is_single is_quotient is_divisor division before =
+    let j = length a - 1 - i in
+    let first : length a - (i + 1) ≡ j = omega arith in
+    let next : j + 1 ≡ length a - i = omega arith in
+    ap (λ n. unsigned values (drop n a)) first ∙ ap (unsigned values) (drop_more a j always (omega arith))
+    ∙ (λ k. digit (value_of values (sym at k)) + 2 * unsigned values (drop (next k) a))
+    ∙ by (digit (value_of values bit)) (digit (value_of values d)) (unsigned values (drop (length a - i) a)) (unsigned values quotient) (unsigned values b) (unsigned values remainder) (unsigned values rest)
+        before (subst (λ m. unsigned values rest + digit (value_of values d) * m ≡ digit (value_of values bit) + 2 * unsigned values remainder) is_divisor division)
+    ∙ ap (λ q. unsigned values q * unsigned values b + unsigned values rest) (sym (is_quotient ∙ ap (λ s. s ++ quotient) is_single))
+  where
+    by : (x d u q b r s : ℕ) → u ≡ q * b + r → s + d * b ≡ x + 2 * r → x + 2 * u ≡ (d + 2 * q) * b + s
+    by x d u q b r s e f = grind (arith, e, f)

@@ -1,0 +1,66 @@
+use Rattle.std.proofs.Common.{◌≡◌, ◌+◌, ◌*◌, ◌-◌, ◌/◌, ◌^◌, ◌<◌, Bool, List, length, get_or, drop, ap, sym, ◌∙◌, subst, arith}
+use Rattle.std.proofs.lemmas.List.{length-append, length-replicate, drop_all}
+use Rattle.std.proofs.lemmas.Nat.{div-mul-add}
+use Rattle.gates.specs.Literal.{Literal, always}
+use Rattle.gates.proofs.Meaning.{IsValuation-Grows}
+use Rattle.word_bits.specs.Words.{unsigned}
+use Rattle.word_bits.proofs.Circuits.{circuits, belongs}
+use Rattle.word_bits.proofs.Numbers.{unsigned-zeros, unsigned-below}
+use Rattle.word_bits.proofs.Products.{unsigned-widened, divide_more}
+use Rattle.word_bits.proofs.division.udiv_rem.Goals as goal
+
+pub loop-i-init : goal.loop-i-init
+loop-i-init c =
+    record {
+      quotient_width = ap length c.new-quotient.ensures;
+      remainder_width = ap length c.in_ok-remainder.ensures ∙ length-replicate _ _ ∙ c.len.ensures.count;
+      spells = λ values v positive.
+        ap (unsigned values) (drop_all (length c.args.a.now - 0) c.args.a.now (omega arith))
+        ∙ sym ((λ i. unsigned values (c.new-quotient.ensures i) * unsigned values c.args.b.now + (ap (unsigned values) c.in_ok-remainder.ensures ∙ unsigned-zeros v _) i) ∙ (let e : 0 * unsigned values c.args.b.now + 0 ≡ 0 = grind arith in e));
+      below = λ values v positive. subst (λ n. n < unsigned values c.args.b.now) (sym (ap (unsigned values) c.in_ok-remainder.ensures ∙ unsigned-zeros v _)) positive;
+      quotient_belongs = grind (arith, belongs, c.new-quotient.ensures);
+      remainder_belongs = grind (arith, belongs, c.in_ok-remainder.ensures);
+      grows = grind (arith, circuits);
+    }
+
+small : (values : List Bool) (remainder b divisor : List Literal) → unsigned values divisor ≡ unsigned values b → length remainder ≡ length b → unsigned values divisor < 2 ^ length remainder
+small values remainder b divisor same width = subst (λ n. unsigned values divisor < 2 ^ n) (sym width) (subst (λ m. m < 2 ^ length b) (sym same) (unsigned-below values b))
+
+pub loop-i-preserved : goal.loop-i-preserved
+loop-i-preserved c =
+    let a = c.args.a.now in
+    let b = c.args.b.now in
+    let in_a : c.loop-i.i < length a = omega arith in
+    let at = c.get-bit.ensures ∙ ap (λ n. get_or a (n - 1 - c.loop-i.i) always) c.len-in-loop-i.ensures.count in
+    record {
+      quotient_width = omega (arith, ap length c.in_ok-quotient.ensures.literals, ap length c.in_ok-single.ensures, length-append c.in_ok-single.single c.loop-i.quotient, c.loop-i.invariant.quotient_width);
+      remainder_width = c.in_ok-digit.ensures.width ∙ c.loop-i.invariant.remainder_width;
+      spells = λ values v positive.
+        let v0 = IsValuation-Grows c.in_ok-digit.ensures.grows v in
+        let same = unsigned-widened v b c.in_ok-divisor.divisor c.in_ok-repeated.field-0 c.in_ok-repeated.ensures c.in_ok-divisor.ensures.literals in
+        let r = c.in_ok-digit.ensures.division values v
+          (subst (λ m. unsigned values c.loop-i.remainder < m) (sym same) (c.loop-i.invariant.below values v0 positive))
+          (small values c.loop-i.remainder b c.in_ok-divisor.divisor same (c.loop-i.invariant.remainder_width ∙ c.requires.widths)) in
+        divide_more values a b c.loop-i.quotient c.in_ok-quotient.quotient c.in_ok-single.single c.loop-i.remainder c.in_ok-digit.rest c.in_ok-divisor.divisor c.loop-i.i c.get-bit.result c.in_ok-digit.digit
+          in_a at c.in_ok-single.ensures c.in_ok-quotient.ensures.literals same r.0 (c.loop-i.invariant.spells values v0 positive);
+      below = λ values v positive.
+        let v0 = IsValuation-Grows c.in_ok-digit.ensures.grows v in
+        let same = unsigned-widened v b c.in_ok-divisor.divisor c.in_ok-repeated.field-0 c.in_ok-repeated.ensures c.in_ok-divisor.ensures.literals in
+        let r = c.in_ok-digit.ensures.division values v
+          (subst (λ m. unsigned values c.loop-i.remainder < m) (sym same) (c.loop-i.invariant.below values v0 positive))
+          (small values c.loop-i.remainder b c.in_ok-divisor.divisor same (c.loop-i.invariant.remainder_width ∙ c.requires.widths)) in
+        subst (λ m. unsigned values c.in_ok-digit.rest < m) same r.1;
+      quotient_belongs = grind (arith, belongs, c.in_ok-quotient.ensures.literals, c.in_ok-single.ensures);
+      remainder_belongs = c.in_ok-digit.ensures.belongs;
+      grows = grind (arith, circuits);
+    }
+
+pub returns-clause-quotient : goal.returns-clause-quotient
+returns-clause-quotient c values v positive =
+    let a = c.args.a.now in
+    let b = unsigned values c.args.b.now in
+    let q = unsigned values c.loop-i.quotient in
+    let r = unsigned values c.loop-i.remainder in
+    let all = c.loop-i.invariant.spells values v positive in
+    let none : length a - c.loop-i.i ≡ 0 = omega arith in
+    sym (ap (λ n. n / b) (ap (λ n. unsigned values (drop n a)) (sym none) ∙ all) ∙ div-mul-add q b r (c.loop-i.invariant.below values v positive))

@@ -1,0 +1,73 @@
+#![tactic(auto, using(crate::proofs::Circuits::circuits, crate::proofs::Circuits::belongs))]
+
+ghost use Rattle.std.specs.Prelude.{◌≡◌, ℕ, ◌+◌, ◌*◌, ◌/◌, ◌%◌, ◌^◌, ◌<◌, ◌≤◌, Bool, List, length, IfOk};
+ghost use Rattle.gates.specs.Nodes.{Grows, Belongs, AllBelong};
+ghost use Rattle.gates.specs.Valuation.{value_of, IsValuation};
+ghost use Rattle.word_bits.specs.Number.{digit};
+ghost use Rattle.word_bits.specs.Words.{unsigned};
+
+use crate::choice::mux;
+use crate::sum::subtract;
+use crate::vector::{concat, front, repeated};
+use gates::{Gates, Lit, Lits};
+use std::alloc::{AllocError, Global};
+
+/// The quotient and the remainder of two vectors where the divisor is not 0: a restoring division, from the highest bit down.
+pub fn udiv_rem(
+    alloc: Global,
+    g: &mut Gates,
+    a: &Lits,
+    b: &Lits,
+) -> Result<(Lits, Lits), AllocError>
+    requires bits { 0 < length a.now }
+    requires widths { length a.now ≡ length b.now }
+    requires first { AllBelong g.old a.now }
+    requires second { AllBelong g.old b.now }
+    ensures quotient { IfOk result (λ r. (values : List Bool) → IsValuation g.new values → 0 < unsigned values b.now → unsigned values r.0 ≡ unsigned values a.now / unsigned values b.now) }
+    ensures remainder { IfOk result (λ r. (values : List Bool) → IsValuation g.new values → 0 < unsigned values b.now → unsigned values r.1 ≡ unsigned values a.now % unsigned values b.now) }
+    ensures quotient_width { IfOk result (λ r. length r.0 ≡ length a.now) }
+    ensures remainder_width { IfOk result (λ r. length r.1 ≡ length a.now) }
+    ensures quotient_belongs { IfOk result (λ r. AllBelong g.new r.0) }
+    ensures remainder_belongs { IfOk result (λ r. AllBelong g.new r.1) }
+    ensures grows { Grows g.old g.new }
+{
+    let mut quotient = Lits::new(alloc);
+    let mut remainder = repeated(alloc, Lit::FALSE, a.len())?;
+    let divisor = concat(alloc, &repeated(alloc, Lit::FALSE, 1)?, b)?;
+    for i in 0..a.len() {
+        let bit = a.get(a.len() - 1 - i);
+        let (digit, rest) = divide_bit(alloc, g, &remainder, bit, &divisor)?;
+        let single = repeated(alloc, digit, 1)?;
+        quotient = concat(alloc, &quotient, &single)?;
+        remainder = rest;
+    }
+    Ok((quotient, remainder))
+}
+
+/// One digit of a quotient, and the remainder after it: the remainder before it with the next bit of the dividend below,
+/// less the divisor where that is not above it.
+fn divide_bit(
+    alloc: Global,
+    g: &mut Gates,
+    remainder: &Lits,
+    bit: Lit,
+    divisor: &Lits,
+) -> Result<(Lit, Lits), AllocError>
+    requires widths { length divisor.now ≡ length remainder.now + 1 }
+    requires first { AllBelong g.old remainder.now }
+    requires second { Belongs g.old bit }
+    requires third { AllBelong g.old divisor.now }
+    ensures division { IfOk result (λ r. (values : List Bool) → IsValuation g.new values → unsigned values remainder.now < unsigned values divisor.now → unsigned values divisor.now < 2 ^ length remainder.now →
+        (unsigned values r.1 + digit (value_of values r.0) * unsigned values divisor.now ≡ digit (value_of values bit) + 2 * unsigned values remainder.now) × (unsigned values r.1 < unsigned values divisor.now)) }
+    ensures width { IfOk result (λ r. length r.1 ≡ length remainder.now) }
+    ensures digit_belongs { IfOk result (λ r. Belongs g.new r.0) }
+    ensures belongs { IfOk result (λ r. AllBelong g.new r.1) }
+    ensures grows { Grows g.old g.new }
+{
+    let lowest = repeated(alloc, bit, 1)?;
+    let shifted = concat(alloc, remainder, &lowest)?;
+    let (difference, digit) = subtract(alloc, g, &shifted, divisor)?;
+    let whole = mux(alloc, g, digit, &difference, &shifted)?;
+    let rest = front(alloc, &whole, remainder.len())?;
+    Ok((digit, rest))
+}

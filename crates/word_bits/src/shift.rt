@@ -1,0 +1,60 @@
+#![tactic(auto, using(crate::proofs::Circuits::circuits, crate::proofs::Circuits::belongs))]
+
+ghost use Rattle.std.specs.Prelude.{◌≡◌, ℕ, ◌+◌, ◌*◌, ◌%◌, ◌^◌, ◌<◌, ◌≤◌, Bool, List, length, IfOk};
+ghost use Rattle.gates.specs.Nodes.{Grows, Belongs, AllBelong};
+ghost use Rattle.gates.specs.Valuation.{value_of, IsValuation};
+ghost use Rattle.word_bits.specs.Number.{digit};
+ghost use Rattle.word_bits.specs.Words.{unsigned};
+
+use crate::choice::mux;
+use crate::vector::{concat, front, repeated};
+use gates::{Gates, Lit, Lits};
+use std::alloc::{AllocError, Global};
+
+/// A vector times two to the number of another, modulo two to its width, where that number is at most the width.
+///
+/// A barrel shifter: one stage for each bit of the amount that such a number can have.
+pub fn shl(alloc: Global, g: &mut Gates, a: &Lits, by: &Lits) -> Result<Lits, AllocError>
+    requires bits { 0 < length a.now }
+    requires first { AllBelong g.old a.now }
+    requires second { AllBelong g.old by.now }
+    ensures shifted { IfOk result (λ r. (values : List Bool) → IsValuation g.new values → unsigned values by.now ≤ length a.now →
+        unsigned values r ≡ (unsigned values a.now * 2 ^ unsigned values by.now) % 2 ^ length a.now) }
+    ensures width { IfOk result (λ r. length r ≡ length a.now) }
+    ensures belongs { IfOk result (AllBelong g.new) }
+    ensures grows { Grows g.old g.new }
+{
+    let mut shifted = a.copy(alloc)?;
+    let mut distance = 1;
+    let mut i = 0;
+    while i < by.len() && distance <= a.len() {
+        shifted = shift_up(alloc, g, &shifted, by.get(i), distance)?;
+        distance *= 2;
+        i += 1;
+    }
+    Ok(shifted)
+}
+
+/// One stage: the vector, moved up by the distance where `bit` is true.
+fn shift_up(
+    alloc: Global,
+    g: &mut Gates,
+    a: &Lits,
+    bit: Lit,
+    distance: usize,
+) -> Result<Lits, AllocError>
+    requires bits { 0 < length a.now }
+    requires within { distance ≤ length a.now }
+    requires first { AllBelong g.old a.now }
+    requires second { Belongs g.old bit }
+    ensures shifted { IfOk result (λ r. (values : List Bool) → IsValuation g.new values → unsigned values r ≡ (unsigned values a.now * 2 ^ (distance * digit (value_of values bit))) % 2 ^ length a.now) }
+    ensures width { IfOk result (λ r. length r ≡ length a.now) }
+    ensures belongs { IfOk result (AllBelong g.new) }
+    ensures grows { Grows g.old g.new }
+{
+    let zeros = repeated(alloc, Lit::FALSE, distance)?;
+    let kept = front(alloc, a, a.len() - distance)?;
+    let moved = concat(alloc, &kept, &zeros)?;
+    let shifted = mux(alloc, g, bit, &moved, a)?;
+    Ok(shifted)
+}

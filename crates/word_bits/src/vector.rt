@@ -1,0 +1,67 @@
+#![tactic(auto, using(crate::proofs::Circuits::circuits, crate::proofs::Circuits::belongs))]
+
+ghost use Rattle.std.specs.Prelude.{◌≡◌, ℕ, ◌+◌, ◌*◌, ◌-◌, ◌/◌, ◌%◌, ◌^◌, ◌<◌, ◌≤◌, Bool, not, false, List, [], ◌∷◌, ◌++◌, length, take, drop, replicate, slice_index_or, IfOk, if◌then◌else◌};
+ghost use Rattle.gates.specs.Literal.{Literal, span, always};
+ghost use Rattle.gates.specs.Valuation.{value_of};
+ghost use Rattle.word_bits.specs.Words.{unsigned};
+
+use gates::{Lit, Lits, lit_not};
+use std::alloc::{AllocError, Global};
+
+/// As many copies of a literal.
+pub(crate) fn repeated(alloc: Global, bit: Lit, n: usize) -> Result<Lits, AllocError>
+    ensures { IfOk result (λ r. r ≡ replicate n bit) }
+{
+    Ok(Lits::from_vec(vec![in alloc; bit; n]?))
+}
+
+/// The negation of each literal.
+pub(crate) fn inverted(alloc: Global, a: &Lits) -> Result<Lits, AllocError>
+    ensures number { IfOk result (λ r. (values : List Bool) → unsigned values r + unsigned values a.now + 1 ≡ 2 ^ length a.now) }
+    ensures width { IfOk result (λ r. length r ≡ length a.now) }
+    ensures span { IfOk result (λ r. span r ≤ span a.now) }
+{
+    let mut out = Lits::new(alloc);
+    for i in 0..a.len() {
+        let bit = lit_not(a.get(i));
+        out.push(bit)?;
+    }
+    Ok(out)
+}
+
+/// The lowest bits.
+pub(crate) fn front(alloc: Global, a: &Lits, n: usize) -> Result<Lits, AllocError>
+    requires { n ≤ length a.now }
+    ensures { IfOk result (λ r. r ≡ take n a.now) }
+{
+    Ok(Lits::from_vec(Vec::from_slice(alloc, &a.as_slice()[..n])?))
+}
+
+/// The bits above the lowest.
+pub(crate) fn tail(alloc: Global, a: &Lits, n: usize) -> Result<Lits, AllocError>
+    requires { n ≤ length a.now }
+    ensures { IfOk result (λ r. r ≡ drop n a.now) }
+{
+    Ok(Lits::from_vec(Vec::from_slice(alloc, &a.as_slice()[n..])?))
+}
+
+/// The bits from `low` to `high`, both among them.
+pub fn select(alloc: Global, a: &Lits, high: usize, low: usize) -> Result<Lits, AllocError>
+    requires ordered { low ≤ high }
+    requires within { high < length a.now }
+    ensures literals { IfOk result (λ r. r ≡ take (high + 1 - low) (drop low a.now)) }
+{
+    Ok(Lits::from_vec(Vec::from_slice(
+        alloc,
+        &a.as_slice()[low..high + 1],
+    )?))
+}
+
+/// The bits of `low`, and those of `high` above them.
+pub fn concat(alloc: Global, high: &Lits, low: &Lits) -> Result<Lits, AllocError>
+    ensures literals { IfOk result (λ r. r ≡ low.now ++ high.now) }
+{
+    let mut bits = Vec::from_slice(alloc, low.as_slice())?;
+    bits.extend_from_slice(high.as_slice())?;
+    Ok(Lits::from_vec(bits))
+}
