@@ -1,4 +1,5 @@
 pub mod Numbers
 pub mod Products
 pub mod Shifts
+pub mod Signs
 pub mod Circuits

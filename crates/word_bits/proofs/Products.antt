@@ -1,7 +1,7 @@
 -- Arithmetic of products, rows and remainders.
 use Rattle.std.proofs.Common.{◌≡◌, ℕ, zero, suc, ◌+◌, ◌*◌, ◌-◌, ◌^◌, ◌<◌, ◌≤◌, ◌/◌, ◌%◌, Bool, true, false, cond, List, [], ◌∷◌, ◌++◌, length, get_or, take, drop, replicate, sym, ap, ◌∙◌, subst, add-one, arith}
 use Rattle.std.proofs.lemmas.List.{take-append-drop, length-take-le, length-drop, length-append, drop_more}
-use Rattle.std.proofs.lemmas.Nat.{div-add-mod', pow-add}
+use Rattle.std.proofs.lemmas.Nat.{div-add-mod', pow-add, shr_high, mod_low}
 use Rattle.std.proofs.Math.Nat.{mul_comm, add-mod, mod-mod}
 use Rattle.gates.specs.declared.node.Node.{Node}
 use Rattle.gates.specs.Literal.{Literal, negated, always}
@@ -22,6 +22,20 @@ pub unsigned-parts : (values : List Bool) (xs : List Literal) (n : ℕ) → n �
 unsigned-parts values xs n h =
     ap (unsigned values) (sym (take-append-drop n xs)) ∙ unsigned-append values (take n xs) (drop n xs)
     ∙ ap (λ m. unsigned values (take n xs) + 2 ^ m * unsigned values (drop n xs)) (length-take-le n xs h)
+
+-- the number of bits in the midst of a list
+pub unsigned-cut : (values : List Bool) (xs : List Literal) (low n : ℕ) → low + n ≤ length xs → unsigned values (take n (drop low xs)) ≡ unsigned values xs / 2 ^ low % 2 ^ n
+unsigned-cut values xs low n h =
+    let above = drop low xs in
+    let high : unsigned values xs / 2 ^ low ≡ unsigned values above =
+      ap (λ m. m / 2 ^ low) (parted xs low (omega arith)) ∙ shr_high (unsigned values above) low (unsigned values (take low xs)) (below xs low (omega arith)) in
+    let width : n ≤ length above = omega (arith, length-drop low xs) in
+    sym (ap (λ m. m % 2 ^ n) (high ∙ parted above n width) ∙ mod_low (unsigned values (drop n above)) n (unsigned values (take n above)) (below above n width))
+  where
+    parted : (ys : List Literal) (m : ℕ) → m ≤ length ys → unsigned values ys ≡ unsigned values (drop m ys) * 2 ^ m + unsigned values (take m ys)
+    parted ys m k = omega (arith, unsigned-parts values ys m k, mul_comm (2 ^ m) (unsigned values (drop m ys)))
+    below : (ys : List Literal) (m : ℕ) → m ≤ length ys → unsigned values (take m ys) < 2 ^ m
+    below ys m k = subst (λ j. unsigned values (take m ys) < 2 ^ j) (length-take-le m ys k) (unsigned-below values (take m ys))
 
 -- what a row adds
 pub row_spelled : (values : List Bool) (product a low high part row sum r : List Literal) (at : ℕ) (d : Bool)

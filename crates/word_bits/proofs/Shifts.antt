@@ -1,14 +1,16 @@
 -- Arithmetic of shifts.
-use Rattle.std.proofs.Common.{◌≡◌, ℕ, zero, suc, ◌+◌, ◌*◌, ◌-◌, ◌^◌, ◌<◌, ◌≤◌, ◌%◌, Bool, true, false, cond, List, ◌++◌, length, take, drop, replicate, sym, ap, ◌∙◌, subst, ◌⊎◌, inl, inr, arith}
-use Rattle.std.proofs.lemmas.List.{length-take-le, length-replicate, length-append, take_all}
-use Rattle.std.proofs.lemmas.Nat.{pow-add, mul-mod_first}
+use Rattle.std.proofs.Common.{◌/◌, mul_comm, refl, map, pos, ◌&&◌, take-append-drop, div-one, ◌≡◌, ℕ, zero, suc, ◌+◌, ◌*◌, ◌-◌, ◌^◌, ◌<◌, ◌≤◌, ◌%◌, Bool, true, false, cond, List, ◌++◌, length, take, drop, replicate, sym, ap, ◌∙◌, subst, ◌⊎◌, inl, inr, arith}
+use Rattle.std.proofs.lemmas.List.{length-take-le, length-replicate, length-append, take_all, length-map, drop-map}
+use Rattle.std.proofs.lemmas.Nat.{pow-add, mul-mod_first, shr-shr, shr_le, shr_high}
+use Rattle.std.specs.Int.{complement_if, int_div_euclid}
 use Rattle.gates.specs.declared.node.Node.{Node}
 use Rattle.gates.specs.Literal.{Literal, negated, always}
-use Rattle.gates.specs.Valuation.{IsValuation}
-use Rattle.word_bits.specs.Number.{digit}
-use Rattle.word_bits.specs.Words.{unsigned}
-use Rattle.word_bits.proofs.Numbers.{unsigned-zeros, unsigned-append, unsigned-below, remainder_from_carry}
+use Rattle.gates.specs.Valuation.{value_of, values_of, IsValuation}
+use Rattle.word_bits.specs.Number.{digit, number, xor, top, number_against}
+use Rattle.word_bits.specs.Words.{unsigned, signed}
+use Rattle.word_bits.proofs.Numbers.{number-append, number-below, unsigned-zeros, unsigned-append, unsigned-below, remainder_from_carry}
 use Rattle.word_bits.proofs.Products.{unsigned-parts}
+use Rattle.word_bits.proofs.Signs.{against-filled, by_filling, signed_by_sign}
 
 regroup : (p q f g : ℕ) → p * f + p * q * g ≡ (f + q * g) * p
 regroup p q f g = grind arith
@@ -60,3 +62,51 @@ amount_whole values by i n within (inr past) small =
 
 pub first_stage : (a m : ℕ) → a < m → a ≡ (a * 2 ^ 0) % m
 first_stage a m h = remainder_from_carry a m 0 (a * 2 ^ 0) h (let e : a + m * 0 ≡ a * 1 = grind arith in e)
+
+-- one stage down
+number-drop : (n : ℕ) (bs : List Bool) → n ≤ length bs → number (drop n bs) ≡ number bs / 2 ^ n
+number-drop n bs h =
+    let low = take n bs in
+    let len : length low ≡ n = length-take-le n bs h in
+    let parts : number bs ≡ number (drop n bs) * 2 ^ n + number low =
+      ap number (sym (take-append-drop n bs)) ∙ number-append low (drop n bs) ∙ ap (λ m. number low + 2 ^ m * number (drop n bs)) len
+      ∙ (let e : number low + 2 ^ n * number (drop n bs) ≡ number (drop n bs) * 2 ^ n + number low = omega (arith, mul_comm (2 ^ n) (number (drop n bs))) in e) in
+    sym (ap (λ m. m / 2 ^ n) parts ∙ shr_high (number (drop n bs)) n (number low) (subst (λ m. number low < 2 ^ m) len (number-below low)))
+
+pub shifted_down : (values : List Bool) (a filled kept moved r : List Literal) (fill : Literal) (bit : Bool) (distance : ℕ) → distance ≤ length a
+    → filled ≡ replicate distance fill → kept ≡ drop distance a → moved ≡ kept ++ filled
+    → values_of values r ≡ cond bit (values_of values moved) (values_of values a)
+    → number_against (value_of values fill) (values_of values r) ≡ number_against (value_of values fill) (values_of values a) / 2 ^ (distance * digit bit)
+shifted_down values a filled kept moved r fill bit distance h is_filled is_kept is_moved is = ap (number_against f) is ∙ by bit
+  where
+    f : Bool
+    f = value_of values fill
+    by : (bit : Bool) → number_against f (cond bit (values_of values moved) (values_of values a)) ≡ number_against f (values_of values a) / 2 ^ (distance * digit bit)
+    by false = sym (div-one (number_against f (values_of values a))) ∙ ap (λ n. number_against f (values_of values a) / 2 ^ n) (let e : 0 ≡ distance * 0 = omega arith in e)
+    by true =
+      let bs = map (xor f) (values_of values a) in
+      let len : length bs ≡ length a = length-map (values_of values a) (xor f) ∙ length-map a (value_of values) in
+      against-filled values kept filled moved distance fill is_filled is_moved
+      ∙ ap (λ l. number_against f (values_of values l)) is_kept
+      ∙ ap number (ap (map (xor f)) (sym (drop-map (value_of values) distance a)) ∙ sym (drop-map (xor f) distance (values_of values a)))
+      ∙ number-drop distance bs (omega (arith, len, h))
+      ∙ ap (λ n. number bs / 2 ^ n) (let e : distance ≡ distance * 1 = omega arith in e)
+
+-- one stage more
+pub shift_down_more : (a s t d : ℕ) (b : Bool) → s ≡ a / 2 ^ t → s / 2 ^ (d * digit b) ≡ a / 2 ^ (t + d * digit b)
+shift_down_more a s t d b e = ap (λ n. n / 2 ^ (d * digit b)) e ∙ shr-shr a t (d * digit b)
+
+div_complement : (t : Bool) (n m : ℕ) → complement_if t (n / m) ≡ int_div_euclid (complement_if t n) (pos m)
+div_complement true n m = refl
+div_complement false n m = refl
+
+-- what all stages give, by the filling
+pub all_shifted : (values : List Bool) (a r : List Literal) (fill : Literal) (copy_sign : Bool) (distance : ℕ) → 0 < length a → length r ≡ length a
+    → value_of values fill ≡ (copy_sign && top (values_of values a))
+    → number_against (value_of values fill) (values_of values r) ≡ number_against (value_of values fill) (values_of values a) / 2 ^ distance
+    → (copy_sign ≡ false → unsigned values r ≡ unsigned values a / 2 ^ distance)
+    × (copy_sign ≡ true → signed values r ≡ int_div_euclid (signed values a) (pos (2 ^ distance)))
+all_shifted values a r fill copy_sign distance h width fills is =
+    let all = by_filling values a r fill copy_sign (λ n. n / 2 ^ distance) (λ n. shr_le n distance) h (omega (arith, width)) fills is in
+    let t = top (values_of values a) in
+    (all.0, λ e. all.1 e ∙ div_complement t (number_against t (values_of values a)) (2 ^ distance) ∙ ap (λ z. int_div_euclid z (pos (2 ^ distance))) (sym (signed_by_sign values a h)))

@@ -1,13 +1,14 @@
 #![tactic(auto, using(crate::proofs::Circuits::circuits, crate::proofs::Circuits::belongs))]
 
-ghost use Rattle.std.specs.Prelude.{◌≡◌, ℕ, ◌+◌, ◌*◌, ◌-◌, ◌%◌, ◌^◌, ◌<◌, ◌≤◌, ◌==◌, Bool, not, List, length, IfOk, nat_lt, nat_le};
+ghost use Rattle.std.specs.Prelude.{◌≡◌, ℕ, ◌+◌, ◌*◌, ◌-◌, ◌%◌, ◌^◌, ◌<◌, ◌≤◌, ◌==◌, Bool, not, List, length, IfOk, nat_lt, nat_le, int_lt, [], ◌∷◌, ◌++◌, take, max};
+ghost use Rattle.gates.specs.Literal.{span};
 ghost use Rattle.gates.specs.Nodes.{Grows, Belongs, AllBelong};
 ghost use Rattle.gates.specs.Valuation.{value_of, IsValuation};
 ghost use Rattle.word_bits.specs.Number.{digit};
-ghost use Rattle.word_bits.specs.Words.{unsigned};
+ghost use Rattle.word_bits.specs.Words.{unsigned, signed};
 
 use crate::bit::{carry_of, differ};
-use crate::vector::inverted;
+use crate::vector::{front, inverted};
 use gates::{Gates, Lit, Lits, lit_not};
 use std::alloc::{AllocError, Global};
 
@@ -42,6 +43,36 @@ pub fn ult(alloc: Global, g: &mut Gates, a: &Lits, b: &Lits) -> Result<Lit, Allo
     let other = inverted(alloc, b)?;
     let above = carry_out(g, a, &other, Lit::TRUE)?;
     Ok(lit_not(above))
+}
+
+/// Whether the signed number of `a` is below that of `b`: the unsigned comparison, with the two highest bits exchanged.
+pub fn slt(alloc: Global, g: &mut Gates, a: &Lits, b: &Lits) -> Result<Lit, AllocError>
+    requires bits { 0 < length a.now }
+    requires widths { length a.now ≡ length b.now }
+    requires first { AllBelong g.old a.now }
+    requires second { AllBelong g.old b.now }
+    ensures meaning { IfOk result (λ l. (values : List Bool) → IsValuation g.new values → value_of values l ≡ int_lt (signed values a.now) (signed values b.now)) }
+    ensures belongs { IfOk result (Belongs g.new) }
+    ensures grows { Grows g.old g.new }
+{
+    let top = a.get(a.len() - 1);
+    let other = b.get(b.len() - 1);
+    let first = with_top(alloc, a, other)?;
+    let second = with_top(alloc, b, top)?;
+    let below = ult(alloc, g, &first, &second)?;
+    Ok(below)
+}
+
+/// A vector with another highest bit.
+fn with_top(alloc: Global, a: &Lits, top: Lit) -> Result<Lits, AllocError>
+    requires bits { 0 < length a.now }
+    ensures literals { IfOk result (λ r. r ≡ take (length a.now - 1) a.now ++ top ∷ []) }
+    ensures width { IfOk result (λ r. length r ≡ length a.now) }
+    ensures span { IfOk result (λ r. span r ≤ max (span a.now) (top.node + 1)) }
+{
+    let mut bits = front(alloc, a, a.len() - 1)?;
+    bits.push(top)?;
+    Ok(bits)
 }
 
 /// Whether two vectors have equal numbers.

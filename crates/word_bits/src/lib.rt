@@ -14,12 +14,9 @@ mod sum;
 mod vector;
 
 pub use choice::mux;
-pub use compare::eq;
-pub use compare::ult;
+pub use compare::{eq, slt, ult};
 pub use division::udiv_rem;
 pub use product::mul;
-pub use shift::shl;
-pub use sum::add;
-pub use sum::neg;
-pub use vector::concat;
-pub use vector::select;
+pub use shift::{shl, shr};
+pub use sum::{add, neg, sub};
+pub use vector::{concat, extend, select};

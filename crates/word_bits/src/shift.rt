@@ -1,13 +1,14 @@
 #![tactic(auto, using(crate::proofs::Circuits::circuits, crate::proofs::Circuits::belongs))]
 
-ghost use Rattle.std.specs.Prelude.{◌≡◌, ℕ, ◌+◌, ◌*◌, ◌%◌, ◌^◌, ◌<◌, ◌≤◌, Bool, List, length, IfOk};
+ghost use Rattle.std.specs.Prelude.{◌≡◌, ℕ, ◌+◌, ◌*◌, ◌%◌, ◌^◌, ◌<◌, ◌≤◌, Bool, List, length, IfOk, ◌/◌, true, false, pos};
+ghost use Rattle.std.specs.Int.{int_div_euclid};
 ghost use Rattle.gates.specs.Nodes.{Grows, Belongs, AllBelong};
-ghost use Rattle.gates.specs.Valuation.{value_of, IsValuation};
-ghost use Rattle.word_bits.specs.Number.{digit};
-ghost use Rattle.word_bits.specs.Words.{unsigned};
+ghost use Rattle.gates.specs.Valuation.{value_of, values_of, IsValuation};
+ghost use Rattle.word_bits.specs.Number.{digit, number_against};
+ghost use Rattle.word_bits.specs.Words.{unsigned, signed};
 
 use crate::choice::mux;
-use crate::vector::{concat, front, repeated};
+use crate::vector::{concat, filling, front, repeated, tail};
 use gates::{Gates, Lit, Lits};
 use std::alloc::{AllocError, Global};
 
@@ -55,6 +56,66 @@ fn shift_up(
     let zeros = repeated(alloc, Lit::FALSE, distance)?;
     let kept = front(alloc, a, a.len() - distance)?;
     let moved = concat(alloc, &kept, &zeros)?;
+    let shifted = mux(alloc, g, bit, &moved, a)?;
+    Ok(shifted)
+}
+
+/// A vector without as many of its lowest bits as the number of another says, where that number is at most the width.
+/// It is filled at the top with its highest bit where `copy_sign`, else with false.
+///
+/// A barrel shifter, as `shl`.
+pub fn shr(
+    alloc: Global,
+    g: &mut Gates,
+    a: &Lits,
+    by: &Lits,
+    copy_sign: bool,
+) -> Result<Lits, AllocError>
+    requires bits { 0 < length a.now }
+    requires first { AllBelong g.old a.now }
+    requires second { AllBelong g.old by.now }
+    ensures number { IfOk result (λ r. (values : List Bool) → IsValuation g.new values → unsigned values by.now ≤ length a.now → copy_sign ≡ false →
+        unsigned values r ≡ unsigned values a.now / 2 ^ unsigned values by.now) }
+    ensures signed { IfOk result (λ r. (values : List Bool) → IsValuation g.new values → unsigned values by.now ≤ length a.now → copy_sign ≡ true →
+        signed values r ≡ int_div_euclid (signed values a.now) (pos (2 ^ unsigned values by.now))) }
+    ensures width { IfOk result (λ r. length r ≡ length a.now) }
+    ensures belongs { IfOk result (AllBelong g.new) }
+    ensures grows { Grows g.old g.new }
+{
+    let fill = filling(a, copy_sign);
+    let mut shifted = a.copy(alloc)?;
+    let mut distance = 1;
+    let mut i = 0;
+    while i < by.len() && distance <= a.len() {
+        shifted = shift_down(alloc, g, &shifted, by.get(i), distance, fill)?;
+        distance *= 2;
+        i += 1;
+    }
+    Ok(shifted)
+}
+
+/// One stage: the vector, moved down by the distance where `bit` is true, and filled at the top.
+fn shift_down(
+    alloc: Global,
+    g: &mut Gates,
+    a: &Lits,
+    bit: Lit,
+    distance: usize,
+    fill: Lit,
+) -> Result<Lits, AllocError>
+    requires within { distance ≤ length a.now }
+    requires first { AllBelong g.old a.now }
+    requires second { Belongs g.old bit }
+    requires third { Belongs g.old fill }
+    ensures shifted { IfOk result (λ r. (values : List Bool) → IsValuation g.new values →
+        number_against (value_of values fill) (values_of values r) ≡ number_against (value_of values fill) (values_of values a.now) / 2 ^ (distance * digit (value_of values bit))) }
+    ensures width { IfOk result (λ r. length r ≡ length a.now) }
+    ensures belongs { IfOk result (AllBelong g.new) }
+    ensures grows { Grows g.old g.new }
+{
+    let filled = repeated(alloc, fill, distance)?;
+    let kept = tail(alloc, a, distance)?;
+    let moved = concat(alloc, &filled, &kept)?;
     let shifted = mux(alloc, g, bit, &moved, a)?;
     Ok(shifted)
 }

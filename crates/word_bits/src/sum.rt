@@ -83,6 +83,21 @@ pub fn add(alloc: Global, g: &mut Gates, a: &Lits, b: &Lits) -> Result<Lits, All
     Ok(sum)
 }
 
+/// The difference of two vectors, modulo two to their width: one adder, of the first and the inverted second.
+pub fn sub(alloc: Global, g: &mut Gates, a: &Lits, b: &Lits) -> Result<Lits, AllocError>
+    requires bits { 0 < length a.now }
+    requires widths { length a.now ≡ length b.now }
+    requires first { AllBelong g.old a.now }
+    requires second { AllBelong g.old b.now }
+    ensures difference { IfOk result (λ r. (values : List Bool) → IsValuation g.new values → unsigned values r ≡ (unsigned values a.now + (2 ^ length a.now - unsigned values b.now)) % 2 ^ length a.now) }
+    ensures width { IfOk result (λ r. length r ≡ length a.now) }
+    ensures belongs { IfOk result (AllBelong g.new) }
+    ensures grows { Grows g.old g.new }
+{
+    let (difference, _carry) = subtract(alloc, g, a, b)?;
+    Ok(difference)
+}
+
 /// Two to the width less the number of a vector, modulo two to the width.
 pub fn neg(alloc: Global, g: &mut Gates, a: &Lits) -> Result<Lits, AllocError>
     requires bits { 0 < length a.now }

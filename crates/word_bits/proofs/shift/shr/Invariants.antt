@@ -1,0 +1,20 @@
+use Rattle.std.proofs.Common.{◌≡◌, ◌-◌, ◌/◌, ◌^◌, ◌≤◌, Bool, List, length, take}
+use Rattle.gates.specs.Nodes.{Grows, AllBelong}
+use Rattle.gates.specs.Valuation.{value_of, values_of, IsValuation}
+use Rattle.word_bits.specs.Number.{number_against}
+use Rattle.word_bits.specs.Words.{unsigned}
+use Rattle.word_bits.proofs.shift.shr.Given as goal
+
+-- the vector, moved by the bits of the amount so far
+abbrev pub invariant-loop-i : goal.invariant-loop-i
+invariant-loop-i l = record {
+  within : l.i ≤ length l.by;
+  distance : l.distance ≡ 2 ^ l.i;
+  width : length l.shifted ≡ length l.a;
+  spells : (values : List Bool) → IsValuation l.g values → number_against (value_of values l.fill) (values_of values l.shifted) ≡ number_against (value_of values l.fill) (values_of values l.a) / 2 ^ unsigned values (take l.i l.by);
+  belongs : AllBelong l.g l.shifted;
+  grows : Grows l.fn.g l.g;
+}
+
+abbrev pub decreases-loop-i : goal.decreases-loop-i
+decreases-loop-i l = length l.by - l.i
