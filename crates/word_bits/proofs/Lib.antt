@@ -3,3 +3,4 @@ pub mod Products
 pub mod Shifts
 pub mod Signs
 pub mod Circuits
+pub mod Quotients

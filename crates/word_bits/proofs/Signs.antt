@@ -167,7 +167,7 @@ lower_by_sign false false l m p x y h k e f = grind (arith, ints, nat_tests)
 low_part : (values : List Bool) (a : List Literal) → values_of values (take (length a - 1) a) ≡ take (length (values_of values a) - 1) (values_of values a)
 low_part values a = sym (ap (λ n. take (n - 1) (values_of values a)) (length-map a (value_of values)) ∙ take-map (value_of values) (length a - 1) a)
 
-top_value : (values : List Bool) (a : List Literal) (x : Literal) → 0 < length a → x ≡ get_or a (length a - 1) always → top (values_of values a) ≡ value_of values x
+pub top_value : (values : List Bool) (a : List Literal) (x : Literal) → 0 < length a → x ≡ get_or a (length a - 1) always → top (values_of values a) ≡ value_of values x
 top_value values a x h at =
     ap (λ n. get_or (values_of values a) (n - 1) false) (length-map a (value_of values))
     ∙ get_or-map (value_of values) a (length a - 1) always false (omega arith) ∙ ap (value_of values) (sym at)

@@ -1,13 +1,14 @@
 #![tactic(auto, using(crate::proofs::Circuits::circuits, crate::proofs::Circuits::belongs))]
 
-ghost use Rattle.std.specs.Prelude.{◌≡◌, ℕ, ◌+◌, ◌*◌, ◌/◌, ◌%◌, ◌^◌, ◌<◌, ◌≤◌, Bool, List, length, IfOk};
+ghost use Rattle.std.specs.Prelude.{◌≡◌, ℕ, ◌+◌, ◌*◌, ◌/◌, ◌%◌, ◌^◌, ◌<◌, ◌≤◌, Bool, List, length, IfOk, ◌-◌, int_div, int_rem, if◌then◌else◌};
 ghost use Rattle.gates.specs.Nodes.{Grows, Belongs, AllBelong};
 ghost use Rattle.gates.specs.Valuation.{value_of, IsValuation};
-ghost use Rattle.word_bits.specs.Number.{digit};
-ghost use Rattle.word_bits.specs.Words.{unsigned};
+ghost use Rattle.word_bits.specs.Number.{digit, wrapped};
+ghost use Rattle.word_bits.specs.Words.{unsigned, signed};
 
 use crate::choice::mux;
-use crate::sum::subtract;
+use crate::bit::differ;
+use crate::sum::{neg, subtract};
 use crate::vector::{concat, front, repeated};
 use gates::{Gates, Lit, Lits};
 use std::alloc::{AllocError, Global};
@@ -70,4 +71,53 @@ fn divide_bit(
     let whole = mux(alloc, g, digit, &difference, &shifted)?;
     let rest = front(alloc, &whole, remainder.len())?;
     Ok((digit, rest))
+}
+
+/// The quotient and the remainder of two signed vectors where the divisor is not 0: the quotient is rounded toward zero,
+/// and both are modulo two to the width.
+///
+/// It is the unsigned division of the magnitudes, with the signs put back.
+pub fn sdiv_rem(
+    alloc: Global,
+    g: &mut Gates,
+    a: &Lits,
+    b: &Lits,
+) -> Result<(Lits, Lits), AllocError>
+    requires bits { 0 < length a.now }
+    requires widths { length a.now ≡ length b.now }
+    requires first { AllBelong g.old a.now }
+    requires second { AllBelong g.old b.now }
+    ensures quotient { IfOk result (λ r. (values : List Bool) → IsValuation g.new values → 0 < unsigned values b.now → unsigned values r.0 ≡ wrapped (length a.now) (int_div (signed values a.now) (signed values b.now))) }
+    ensures remainder { IfOk result (λ r. (values : List Bool) → IsValuation g.new values → 0 < unsigned values b.now → unsigned values r.1 ≡ wrapped (length a.now) (int_rem (signed values a.now) (signed values b.now))) }
+    ensures quotient_width { IfOk result (λ r. length r.0 ≡ length a.now) }
+    ensures remainder_width { IfOk result (λ r. length r.1 ≡ length a.now) }
+    ensures quotient_belongs { IfOk result (λ r. AllBelong g.new r.0) }
+    ensures remainder_belongs { IfOk result (λ r. AllBelong g.new r.1) }
+    ensures grows { Grows g.old g.new }
+{
+    let sign = a.get(a.len() - 1);
+    let other = b.get(b.len() - 1);
+    let dividend = negate_where(alloc, g, sign, a)?;
+    let divisor = negate_where(alloc, g, other, b)?;
+    let (size, rest) = udiv_rem(alloc, g, &dividend, &divisor)?;
+    let apart = differ(g, sign, other)?;
+    let quotient = negate_where(alloc, g, apart, &size)?;
+    let remainder = negate_where(alloc, g, sign, &rest)?;
+    Ok((quotient, remainder))
+}
+
+/// The negation of a vector where `c` is true, else the vector.
+fn negate_where(alloc: Global, g: &mut Gates, c: Lit, a: &Lits) -> Result<Lits, AllocError>
+    requires bits { 0 < length a.now }
+    requires test { Belongs g.old c }
+    requires first { AllBelong g.old a.now }
+    ensures number { IfOk result (λ r. (values : List Bool) → IsValuation g.new values →
+        unsigned values r ≡ (if value_of values c then (2 ^ length a.now - unsigned values a.now) % 2 ^ length a.now else unsigned values a.now)) }
+    ensures width { IfOk result (λ r. length r ≡ length a.now) }
+    ensures belongs { IfOk result (AllBelong g.new) }
+    ensures grows { Grows g.old g.new }
+{
+    let negation = neg(alloc, g, a)?;
+    let chosen = mux(alloc, g, c, &negation, a)?;
+    Ok(chosen)
 }

@@ -15,7 +15,7 @@ mod vector;
 
 pub use choice::mux;
 pub use compare::{eq, slt, ult};
-pub use division::udiv_rem;
+pub use division::{sdiv_rem, udiv_rem};
 pub use product::mul;
 pub use shift::{shl, shr};
 pub use sum::{add, neg, sub};
