@@ -1,6 +1,6 @@
 -- Arithmetic of products, rows and remainders.
-use Rattle.std.proofs.Common.{◌≡◌, ℕ, zero, suc, ◌+◌, ◌*◌, ◌-◌, ◌^◌, ◌<◌, ◌≤◌, ◌/◌, ◌%◌, Bool, true, false, cond, List, [], ◌∷◌, ◌++◌, length, get_or, take, drop, replicate, sym, ap, ◌∙◌, subst, add-one, arith}
-use Rattle.std.proofs.lemmas.List.{take-append-drop, length-take-le, length-drop, length-append, drop_more}
+use Rattle.std.proofs.Common.{◌||◌, get_or, ◌≡◌, ℕ, zero, suc, ◌+◌, ◌*◌, ◌-◌, ◌^◌, ◌<◌, ◌≤◌, ◌/◌, ◌%◌, Bool, true, false, cond, List, [], ◌∷◌, ◌++◌, length, get_or, take, drop, replicate, sym, ap, ◌∙◌, subst, add-one, arith}
+use Rattle.std.proofs.lemmas.List.{take_all, take-append-drop, length-take-le, length-drop, length-append, drop_more}
 use Rattle.std.proofs.lemmas.Nat.{div-add-mod', pow-add, shr_high, mod_low}
 use Rattle.std.proofs.Math.Nat.{mul_comm, add-mod, mod-mod}
 use Rattle.gates.specs.declared.node.Node.{Node}
@@ -8,7 +8,7 @@ use Rattle.gates.specs.Literal.{Literal, negated, always}
 use Rattle.word_bits.specs.Number.{digit}
 use Rattle.word_bits.specs.Words.{unsigned}
 use Rattle.gates.specs.Valuation.{value_of, IsValuation}
-use Rattle.word_bits.proofs.Numbers.{unsigned-zeros, pow_more, unsigned-append, unsigned-below, remainder_from_carry}
+use Rattle.word_bits.proofs.Numbers.{unsigned-more, digit_small, unsigned-zeros, pow_more, unsigned-append, unsigned-below, remainder_from_carry}
 
 row_added : (p q l h f g s c d : ℕ) → s + q * c ≡ h + d * f → l + p * s + p * q * (c + d * g) ≡ l + p * h + p * d * (f + q * g)
 row_added p q l h f g s c d row = let e = ap (λ n. p * n) row in grind (arith, e)
@@ -81,65 +81,63 @@ mod_row a t p d x m e =
 pub zero_product : (a m s : ℕ) → 0 < m → s ≡ 0 → s ≡ (a * 0) % m
 zero_product a m s h e = e ∙ remainder_from_carry 0 m 0 (a * 0) h (let f : 0 + m * 0 ≡ a * 0 = grind arith in f)
 
--- one digit of a restoring division: x is the shifted remainder, d the divisor with a 0 above it, and s and c their difference and its carry
-restored : (x d s r p : ℕ) (c : Bool) → s + 2 * p * digit c + d ≡ x + 2 * p → s < 2 * p → x < 2 * d → d < p → r ≡ cond c s x → (r + digit c * d ≡ x) × (r < d)
-restored x d s r p true e s_below x_below d_below is = (omega (arith, e, is), omega (arith, e, is))
-restored x d s r p false e s_below x_below d_below is = (omega (arith, e, is), omega (arith, e, is, s_below))
+-- one digit of a restoring division: low is the shifted remainder but for the bit t that left it, d the divisor, and s and c their difference and its carry
+restored : (low d s r p : ℕ) (t c : Bool) → s + p * digit c + d ≡ low + p → s < p → low + p * digit t < 2 * d → d < p → r ≡ cond (t || c) s low
+    → (r + digit (t || c) * d ≡ low + p * digit t) × (r < d)
+restored low d s r p true true e s_below x_below d_below is = absurd (omega (arith, e, x_below, d_below))
+restored low d s r p true false e s_below x_below d_below is = (omega (arith, e, is), omega (arith, e, is, x_below))
+restored low d s r p false true e s_below x_below d_below is = (omega (arith, e, is), omega (arith, e, is, x_below))
+restored low d s r p false false e s_below x_below d_below is = (omega (arith, is), omega (arith, e, is, s_below))
 
-pub divided : (values : List Bool) (remainder divisor lowest shifted difference whole rest : List Literal) (bit : Literal) (digit' : Bool)
-    → length divisor ≡ length remainder + 1 → lowest ≡ bit ∷ [] → shifted ≡ lowest ++ remainder
-    → unsigned values difference + 2 ^ length shifted * digit digit' + unsigned values divisor ≡ unsigned values shifted + 2 ^ length shifted
-    → length difference ≡ length shifted → length whole ≡ length difference
-    → unsigned values whole ≡ cond digit' (unsigned values difference) (unsigned values shifted)
-    → rest ≡ take (length remainder) whole
-    → unsigned values remainder < unsigned values divisor → unsigned values divisor < 2 ^ length remainder
+pub divided : (values : List Bool) (remainder divisor kept lowest shifted difference rest : List Literal) (above bit : Literal) (carry digit' : Bool) → 0 < length remainder
+    → length remainder ≡ length divisor → above ≡ get_or remainder (length remainder - 1) always → kept ≡ take (length remainder - 1) remainder → lowest ≡ bit ∷ [] → shifted ≡ lowest ++ kept
+    → unsigned values difference + 2 ^ length shifted * digit carry + unsigned values divisor ≡ unsigned values shifted + 2 ^ length shifted
+    → length difference ≡ length shifted → digit' ≡ (value_of values above || carry)
+    → unsigned values rest ≡ cond digit' (unsigned values difference) (unsigned values shifted)
+    → unsigned values remainder < unsigned values divisor
     → (unsigned values rest + digit digit' * unsigned values divisor ≡ digit (value_of values bit) + 2 * unsigned values remainder) × (unsigned values rest < unsigned values divisor)
-divided values remainder divisor lowest shifted difference whole rest bit digit' widths is_low is_shifted is_difference difference_len whole_len is_whole is_rest below small =
+divided values remainder divisor kept lowest shifted difference rest above bit carry digit' some widths is_above is_kept is_lowest is_shifted is_difference difference_len is_digit is_rest below =
     let n = length remainder in
+    let half = 2 ^ (n - 1) in
     let p = 2 ^ n in
-    let x = digit (value_of values bit) + 2 * unsigned values remainder in
-    let shifted_is : shifted ≡ bit ∷ remainder = is_shifted ∙ ap (λ l. l ++ remainder) is_low in
-    let x_is : unsigned values shifted ≡ x = ap (unsigned values) shifted_is in
-    let len : length shifted ≡ suc n = ap length shifted_is in
-    let twice : 2 ^ length shifted ≡ 2 * p = ap (λ m. 2 ^ m) (len ∙ sym (add-one n)) ∙ pow_more n in
-    let s = unsigned values difference in
-    let s_below : s < 2 * p = subst (λ m. s < m) (ap (λ m. 2 ^ m) difference_len ∙ twice) (unsigned-below values difference) in
-    let r = restored x (unsigned values divisor) s (unsigned values whole) p digit'
-      (subst (λ m. s + m * digit digit' + unsigned values divisor ≡ x + m) twice (is_difference ∙ ap (λ m. m + 2 ^ length shifted) x_is))
-      s_below (by (value_of values bit) (unsigned values remainder) (unsigned values divisor) below) small
-      (is_whole ∙ ap (λ m. cond digit' s m) x_is) in
-    let whole_width : n ≤ length whole = omega (arith, whole_len, difference_len, len) in
-    let parts = unsigned-parts values whole n whole_width in
-    let low : unsigned values rest ≡ unsigned values whole = ap (unsigned values) is_rest ∙ only_low (unsigned values (take n whole)) (unsigned values (drop n whole)) p (unsigned values whole) parts (omega (arith, r.1, small)) in
-    (ap (λ m. m + digit digit' * unsigned values divisor) low ∙ r.0, omega (arith, low, r.1))
+    let d = unsigned values divisor in
+    let t = value_of values above in
+    let one : n ≡ (n - 1) + 1 = omega arith in
+    let shifted_is : shifted ≡ bit ∷ kept = is_shifted ∙ ap (λ l. l ++ kept) is_lowest in
+    let len : length shifted ≡ n = omega (arith, ap length shifted_is, ap length is_kept, length-take-le (n - 1) remainder (omega arith)) in
+    let whole : p ≡ 2 * half = ap (λ m. 2 ^ m) one ∙ pow_more (n - 1) in
+    let remainder_is : unsigned values remainder ≡ unsigned values kept + half * digit t =
+      ap (unsigned values) (sym (ap (λ m. take m remainder) (sym one) ∙ take_all n remainder (omega arith))) ∙ unsigned-more values remainder (n - 1) (omega arith)
+      ∙ sym (λ i. unsigned values (is_kept i) + half * digit (value_of values (is_above i))) in
+    let low_is : unsigned values shifted ≡ digit (value_of values bit) + 2 * unsigned values kept = ap (unsigned values) shifted_is in
+    let all : unsigned values shifted + p * digit t ≡ digit (value_of values bit) + 2 * unsigned values remainder =
+      by t (unsigned values shifted) p half (digit (value_of values bit)) (unsigned values kept) (unsigned values remainder) low_is whole remainder_is in
+    let x_below : unsigned values shifted + p * digit t < 2 * d = omega (arith, all, below, digit_small (value_of values bit)) in
+    let s_below : unsigned values difference < p = subst (λ m. unsigned values difference < 2 ^ m) (difference_len ∙ len) (unsigned-below values difference) in
+    let d_below : d < p = subst (λ m. d < 2 ^ m) (sym widths) (unsigned-below values divisor) in
+    let r = restored (unsigned values shifted) d (unsigned values difference) (unsigned values rest) p t carry
+      (subst (λ m. unsigned values difference + 2 ^ m * digit carry + d ≡ unsigned values shifted + 2 ^ m) len is_difference) s_below x_below d_below
+      (is_rest ∙ ap (λ b. cond b (unsigned values difference) (unsigned values shifted)) is_digit) in
+    (ap (λ b. unsigned values rest + digit b * d) is_digit ∙ r.0 ∙ all, r.1)
   where
-    by : (b : Bool) (m d : ℕ) → m < d → digit b + 2 * m < 2 * d
-    by true m d h = omega arith
-    by false m d h = omega arith
-    only_low : (l h p w : ℕ) → w ≡ l + p * h → w < p → l ≡ w
-    only_low l zero p w e k = omega (arith, e)
-    only_low l (suc h) p w e k = absurd (let f : p * suc h ≡ p * h + p = grind arith in omega (arith, e, f, k))
-
--- a divisor with a 0 above it
-pub unsigned-widened : {nodes : List Node} {values : List Bool} → IsValuation nodes values → (b divisor high : List Literal) → high ≡ replicate 1 (negated always) → divisor ≡ b ++ high → unsigned values divisor ≡ unsigned values b
-unsigned-widened {values = values} v b divisor high is_high is =
-    ap (unsigned values) is ∙ unsigned-append values b high ∙ ap (λ h. unsigned values b + 2 ^ length b * h) (ap (unsigned values) is_high ∙ unsigned-zeros v 1)
-    ∙ (let e : unsigned values b + 2 ^ length b * 0 ≡ unsigned values b = grind arith in e)
+    by : (t : Bool) (l p half x k r : ℕ) → l ≡ x + 2 * k → p ≡ 2 * half → r ≡ k + half * digit t → l + p * digit t ≡ x + 2 * r
+    by true l p half x k r e f g = omega (arith, e, f, g)
+    by false l p half x k r e f g = omega (arith, e, g)
 
 -- one more digit of a quotient
-pub divide_more : (values : List Bool) (a b quotient quotient' single remainder rest divisor : List Literal) (i : ℕ) (bit d : Literal) → i < length a
-    → bit ≡ get_or a (length a - 1 - i) always → single ≡ d ∷ [] → quotient' ≡ single ++ quotient → unsigned values divisor ≡ unsigned values b
-    → unsigned values rest + digit (value_of values d) * unsigned values divisor ≡ digit (value_of values bit) + 2 * unsigned values remainder
+pub divide_more : (values : List Bool) (a b quotient quotient' single remainder rest : List Literal) (i : ℕ) (bit d : Literal) → i < length a
+    → bit ≡ get_or a (length a - 1 - i) always → single ≡ d ∷ [] → quotient' ≡ single ++ quotient
+    → unsigned values rest + digit (value_of values d) * unsigned values b ≡ digit (value_of values bit) + 2 * unsigned values remainder
     → unsigned values (drop (length a - i) a) ≡ unsigned values quotient * unsigned values b + unsigned values remainder
     → unsigned values (drop (length a - (i + 1)) a) ≡ unsigned values quotient' * unsigned values b + unsigned values rest
-divide_more values a b quotient quotient' single remainder rest divisor i bit d h at is_single is_quotient is_divisor division before =
+divide_more values a b quotient quotient' single remainder rest i bit d h at is_single is_quotient division before =
     let j = length a - 1 - i in
     let first : length a - (i + 1) ≡ j = omega arith in
     let next : j + 1 ≡ length a - i = omega arith in
     ap (λ n. unsigned values (drop n a)) first ∙ ap (unsigned values) (drop_more a j always (omega arith))
     ∙ (λ k. digit (value_of values (sym at k)) + 2 * unsigned values (drop (next k) a))
     ∙ by (digit (value_of values bit)) (digit (value_of values d)) (unsigned values (drop (length a - i) a)) (unsigned values quotient) (unsigned values b) (unsigned values remainder) (unsigned values rest)
-        before (subst (λ m. unsigned values rest + digit (value_of values d) * m ≡ digit (value_of values bit) + 2 * unsigned values remainder) is_divisor division)
+        before division
     ∙ ap (λ q. unsigned values q * unsigned values b + unsigned values rest) (sym (is_quotient ∙ ap (λ s. s ++ quotient) is_single))
   where
     by : (x d u q b r s : ℕ) → u ≡ q * b + r → s + d * b ≡ x + 2 * r → x + 2 * u ≡ (d + 2 * q) * b + s

@@ -7,7 +7,7 @@ ghost use Rattle.word_bits.specs.Number.{digit, wrapped};
 ghost use Rattle.word_bits.specs.Words.{unsigned, signed};
 
 use crate::choice::mux;
-use crate::bit::differ;
+use crate::bit::{differ, or};
 use crate::sum::{neg, subtract};
 use crate::vector::{concat, front, repeated};
 use gates::{Gates, Lit, Lits};
@@ -34,10 +34,9 @@ pub fn udiv_rem(
 {
     let mut quotient = Lits::new(alloc);
     let mut remainder = repeated(alloc, Lit::FALSE, a.len())?;
-    let divisor = concat(alloc, &repeated(alloc, Lit::FALSE, 1)?, b)?;
     for i in 0..a.len() {
         let bit = a.get(a.len() - 1 - i);
-        let (digit, rest) = divide_bit(alloc, g, &remainder, bit, &divisor)?;
+        let (digit, rest) = divide_bit(alloc, g, &remainder, bit, b)?;
         let single = repeated(alloc, digit, 1)?;
         quotient = concat(alloc, &quotient, &single)?;
         remainder = rest;
@@ -47,6 +46,8 @@ pub fn udiv_rem(
 
 /// One digit of a quotient, and the remainder after it: the remainder before it with the next bit of the dividend below,
 /// less the divisor where that is not above it.
+///
+/// The bit that leaves the remainder at the top needs no place in the difference: where it is set, the divisor is not above.
 fn divide_bit(
     alloc: Global,
     g: &mut Gates,
@@ -54,22 +55,25 @@ fn divide_bit(
     bit: Lit,
     divisor: &Lits,
 ) -> Result<(Lit, Lits), AllocError>
-    requires widths { length divisor.now ≡ length remainder.now + 1 }
+    requires bits { 0 < length remainder.now }
+    requires widths { length remainder.now ≡ length divisor.now }
     requires first { AllBelong g.old remainder.now }
     requires second { Belongs g.old bit }
     requires third { AllBelong g.old divisor.now }
-    ensures division { IfOk result (λ r. (values : List Bool) → IsValuation g.new values → unsigned values remainder.now < unsigned values divisor.now → unsigned values divisor.now < 2 ^ length remainder.now →
+    ensures division { IfOk result (λ r. (values : List Bool) → IsValuation g.new values → unsigned values remainder.now < unsigned values divisor.now →
         (unsigned values r.1 + digit (value_of values r.0) * unsigned values divisor.now ≡ digit (value_of values bit) + 2 * unsigned values remainder.now) × (unsigned values r.1 < unsigned values divisor.now)) }
     ensures width { IfOk result (λ r. length r.1 ≡ length remainder.now) }
     ensures digit_belongs { IfOk result (λ r. Belongs g.new r.0) }
     ensures belongs { IfOk result (λ r. AllBelong g.new r.1) }
     ensures grows { Grows g.old g.new }
 {
+    let above = remainder.get(remainder.len() - 1);
+    let kept = front(alloc, remainder, remainder.len() - 1)?;
     let lowest = repeated(alloc, bit, 1)?;
-    let shifted = concat(alloc, remainder, &lowest)?;
-    let (difference, digit) = subtract(alloc, g, &shifted, divisor)?;
-    let whole = mux(alloc, g, digit, &difference, &shifted)?;
-    let rest = front(alloc, &whole, remainder.len())?;
+    let shifted = concat(alloc, &kept, &lowest)?;
+    let (difference, carry) = subtract(alloc, g, &shifted, divisor)?;
+    let digit = or(g, above, carry)?;
+    let rest = mux(alloc, g, digit, &difference, &shifted)?;
     Ok((digit, rest))
 }
 
@@ -99,11 +103,11 @@ pub fn sdiv_rem(
     let other = b.get(b.len() - 1);
     let dividend = negate_where(alloc, g, sign, a)?;
     let divisor = negate_where(alloc, g, other, b)?;
-    let (size, rest) = udiv_rem(alloc, g, &dividend, &divisor)?;
+    let (quotient, remainder) = udiv_rem(alloc, g, &dividend, &divisor)?;
     let apart = differ(g, sign, other)?;
-    let quotient = negate_where(alloc, g, apart, &size)?;
-    let remainder = negate_where(alloc, g, sign, &rest)?;
-    Ok((quotient, remainder))
+    let signed_quotient = negate_where(alloc, g, apart, &quotient)?;
+    let signed_remainder = negate_where(alloc, g, sign, &remainder)?;
+    Ok((signed_quotient, signed_remainder))
 }
 
 /// The negation of a vector where `c` is true, else the vector.

@@ -6,7 +6,7 @@ use Rattle.gates.proofs.Meaning.{IsValuation-Grows}
 use Rattle.word_bits.specs.Words.{unsigned}
 use Rattle.word_bits.proofs.Circuits.{circuits, belongs}
 use Rattle.word_bits.proofs.Numbers.{unsigned-zeros, unsigned-below}
-use Rattle.word_bits.proofs.Products.{unsigned-widened, divide_more}
+use Rattle.word_bits.proofs.Products.{divide_more}
 use Rattle.word_bits.proofs.division.udiv_rem.Goals as goal
 
 pub loop-i-init : goal.loop-i-init
@@ -23,9 +23,6 @@ loop-i-init c =
       grows = grind (arith, circuits);
     }
 
-small : (values : List Bool) (remainder b divisor : List Literal) → unsigned values divisor ≡ unsigned values b → length remainder ≡ length b → unsigned values divisor < 2 ^ length remainder
-small values remainder b divisor same width = subst (λ n. unsigned values divisor < 2 ^ n) (sym width) (subst (λ m. m < 2 ^ length b) (sym same) (unsigned-below values b))
-
 pub loop-i-preserved : goal.loop-i-preserved
 loop-i-preserved c =
     let a = c.args.a.now in
@@ -37,19 +34,12 @@ loop-i-preserved c =
       remainder_width = c.in_ok-digit.ensures.width ∙ c.loop-i.invariant.remainder_width;
       spells = λ values v positive.
         let v0 = IsValuation-Grows c.in_ok-digit.ensures.grows v in
-        let same = unsigned-widened v b c.in_ok-divisor.divisor c.in_ok-repeated.field-0 c.in_ok-repeated.ensures c.in_ok-divisor.ensures.literals in
-        let r = c.in_ok-digit.ensures.division values v
-          (subst (λ m. unsigned values c.loop-i.remainder < m) (sym same) (c.loop-i.invariant.below values v0 positive))
-          (small values c.loop-i.remainder b c.in_ok-divisor.divisor same (c.loop-i.invariant.remainder_width ∙ c.requires.widths)) in
-        divide_more values a b c.loop-i.quotient c.in_ok-quotient.quotient c.in_ok-single.single c.loop-i.remainder c.in_ok-digit.rest c.in_ok-divisor.divisor c.loop-i.i c.get-bit.result c.in_ok-digit.digit
-          in_a at c.in_ok-single.ensures c.in_ok-quotient.ensures.literals same r.0 (c.loop-i.invariant.spells values v0 positive);
+        let r = c.in_ok-digit.ensures.division values v (c.loop-i.invariant.below values v0 positive) in
+        divide_more values a b c.loop-i.quotient c.in_ok-quotient.quotient c.in_ok-single.single c.loop-i.remainder c.in_ok-digit.rest c.loop-i.i c.get-bit.result c.in_ok-digit.digit
+          in_a at c.in_ok-single.ensures c.in_ok-quotient.ensures.literals r.0 (c.loop-i.invariant.spells values v0 positive);
       below = λ values v positive.
         let v0 = IsValuation-Grows c.in_ok-digit.ensures.grows v in
-        let same = unsigned-widened v b c.in_ok-divisor.divisor c.in_ok-repeated.field-0 c.in_ok-repeated.ensures c.in_ok-divisor.ensures.literals in
-        let r = c.in_ok-digit.ensures.division values v
-          (subst (λ m. unsigned values c.loop-i.remainder < m) (sym same) (c.loop-i.invariant.below values v0 positive))
-          (small values c.loop-i.remainder b c.in_ok-divisor.divisor same (c.loop-i.invariant.remainder_width ∙ c.requires.widths)) in
-        subst (λ m. unsigned values c.in_ok-digit.rest < m) same r.1;
+        (c.in_ok-digit.ensures.division values v (c.loop-i.invariant.below values v0 positive)).1;
       quotient_belongs = grind (arith, belongs, c.in_ok-quotient.ensures.literals, c.in_ok-single.ensures);
       remainder_belongs = c.in_ok-digit.ensures.belongs;
       grows = grind (arith, circuits);

@@ -1,0 +1,11 @@
+use Rattle.std.proofs.Common.{◌≡◌, length}
+use Rattle.gates.specs.Nodes.{Grows, AllBelong}
+use Rattle.word_bits.proofs.tests.inputs.Given as goal
+
+-- as many inputs as there were rounds
+abbrev pub invariant-loop : goal.invariant-loop
+invariant-loop l = record {
+  width : length l.bits ≡ l.counter;
+  belongs : AllBelong l.g l.bits;
+  grows : Grows l.fn.g l.g;
+}
