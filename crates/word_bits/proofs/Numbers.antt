@@ -117,7 +117,7 @@ carry_more values a b i d x y c c' in_a in_b small at_a at_b is before =
     let below_a : unsigned values (take i a) < 2 ^ i = subst (λ k. unsigned values (take i a) < 2 ^ k) (length-take-le i a (omega arith)) (unsigned-below values (take i a)) in
     let below_b : unsigned values (take i b) < 2 ^ i = subst (λ k. unsigned values (take i b) < 2 ^ k) (length-take-le i b (omega arith)) (unsigned-below values (take i b)) in
     rw (m, n, pow_more i)
-      (is ∙ by (2 ^ i) _ _ below_a below_b (value_of values x) (value_of values y) (value_of values c) before)
+    (is ∙ by (2 ^ i) _ _ below_a below_b (value_of values x) (value_of values y) (value_of values c) before)
   where
     by : (p s t : ℕ) → s < p → t < p → (x y c : Bool) → c ≡ leb p (s + t + d) → carry x y c ≡ leb (2 * p) (s + p * digit x + (t + p * digit y) + d)
     by p s t h k true true true e = sym (le-leb (2 * p) (s + p * 1 + (t + p * 1) + d) (omega arith))
@@ -141,7 +141,7 @@ same_more values a b i x y c c' d in_a in_b at_a at_b apart is before =
     let below_a : unsigned values (take i a) < 2 ^ i = subst (λ k. unsigned values (take i a) < 2 ^ k) (length-take-le i a (omega arith)) (unsigned-below values (take i a)) in
     let below_b : unsigned values (take i b) < 2 ^ i = subst (λ k. unsigned values (take i b) < 2 ^ k) (length-take-le i b (omega arith)) (unsigned-below values (take i b)) in
     rw (m, n)
-      (is ∙ (λ j. before j && not (apart j)) ∙ by (2 ^ i) _ _ below_a below_b (value_of values x) (value_of values y))
+    (is ∙ (λ j. before j && not (apart j)) ∙ by (2 ^ i) _ _ below_a below_b (value_of values x) (value_of values y))
   where
     by : (p s t : ℕ) → s < p → t < p → (x y : Bool) → (eqb s t && not (xor x y)) ≡ eqb (s + p * digit x) (t + p * digit y)
     by p s t h k true true = grind (arith, nat_tests)

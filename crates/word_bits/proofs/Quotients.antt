@@ -51,7 +51,7 @@ magnitude-below values a h =
     let len : length bs ≡ length a = length-map a (value_of values) in
     let t = top bs in
     let s : unsigned_abs (signed values a) ≤ 2 ^ (length a - 1) =
-      subst (λ z. unsigned_abs z ≤ 2 ^ (length a - 1)) (sym (signed_by_sign values a h)) (size-le t (number_against t bs) (2 ^ (length a - 1)) (subst (λ n. number_against t bs < 2 ^ (n - 1)) len (against_top bs (omega (arith, len))))) in
+    subst (λ z. unsigned_abs z ≤ 2 ^ (length a - 1)) (sym (signed_by_sign values a h)) (size-le t (number_against t bs) (2 ^ (length a - 1)) (subst (λ n. number_against t bs < 2 ^ (n - 1)) len (against_top bs (omega (arith, len))))) in
     omega (arith, s, pow_below (length a - 1) (length a) (omega arith))
 
 -- a vector that was negated where its highest bit is set
@@ -62,8 +62,8 @@ magnitude values a size x h at is =
     let bs = values_of values a in
     let t = top bs in
     let s : unsigned_abs (signed values a) ≡ cond (value_of values x) (2 ^ length a - unsigned values a) (unsigned values a) =
-      ap unsigned_abs (signed_by_sign values a h) ∙ size_is t bs
-      ∙ (λ i. cond (top_value values a x h at i) (2 ^ length-map a (value_of values) i - unsigned values a) (unsigned values a)) in
+    ap unsigned_abs (signed_by_sign values a h) ∙ size_is t bs
+    ∙ (λ i. cond (top_value values a x h at i) (2 ^ length-map a (value_of values) i - unsigned values a) (unsigned values a)) in
     sized (value_of values x) (2 ^ length a) (unsigned values a) (unsigned_abs (signed values a)) (unsigned values size) (unsigned-below values a) s (magnitude-below values a h) is
 
 -- the signs put back
@@ -85,16 +85,17 @@ signed_division values a b quotient remainder x y c q r h k at_a at_b is_q is_r 
     let q_small : q < 2 ^ n = omega (arith, is_q, div-le_self size other, below) in
     let r_small : r < 2 ^ n = omega (arith, is_r, mod-le size other, below) in
     let quotient_is : int_div (signed values a) (signed values b) ≡ cond c (neg_ℤ (pos q)) (pos q) =
-      quotient_by_signs s t (signed values a) (signed values b) (number_against s (values_of values a)) (number_against t (values_of values b)) (signed_by_sign values a h) (signed_by_sign values b k)
-      ∙ sym (λ i. cond ((is_c ∙ (λ j. xor (sym (top_value values a x h at_a) j) (sym (top_value values b y k at_b) j))) i) (neg_ℤ (pos (is_q i))) (pos (is_q i))) in
+    quotient_by_signs s t (signed values a) (signed values b) (number_against s (values_of values a)) (number_against t (values_of values b)) (signed_by_sign values a h) (signed_by_sign values b k)
+    ∙ sym (λ i. cond ((is_c ∙ (λ j. xor (sym (top_value values a x h at_a) j) (sym (top_value values b y k at_b) j))) i) (neg_ℤ (pos (is_q i))) (pos (is_q i))) in
     let remainder_is : int_rem (signed values a) (signed values b) ≡ cond (value_of values x) (neg_ℤ (pos r)) (pos r) =
-      remainder_by_sign s (signed values a) (signed values b) (number_against s (values_of values a)) (signed_by_sign values a h)
-      ∙ (λ i. cond (top_value values a x h at_a i) (neg_ℤ (pos (sym is_r i))) (pos (sym is_r i))) in
+    remainder_by_sign s (signed values a) (signed values b) (number_against s (values_of values a)) (signed_by_sign values a h)
+    ∙ (λ i. cond (top_value values a x h at_a i) (neg_ℤ (pos (sym is_r i))) (pos (sym is_r i))) in
     (is_quotient ∙ sym (ap (wrapped n) quotient_is ∙ wrapped_signed n c q q_small), is_remainder ∙ sym (ap (wrapped n) remainder_is ∙ wrapped_signed n (value_of values x) r r_small))
   where
     quotient_by_signs : (s t : Bool) (y z : ℤ) (l m : ℕ) → y ≡ complement_if s l → z ≡ complement_if t m
         → int_div y z ≡ cond (xor s t) (neg_ℤ (pos (unsigned_abs y / unsigned_abs z))) (pos (unsigned_abs y / unsigned_abs z))
     quotient_by_signs s t y z l m e f = (λ i. int_div (e i) (f i)) ∙ signed_quotient s t l m ∙ sym (λ i. cond (xor s t) (neg_ℤ (pos (unsigned_abs (e i) / unsigned_abs (f i)))) (pos (unsigned_abs (e i) / unsigned_abs (f i))))
+
     remainder_by_sign : (s : Bool) (y z : ℤ) (l : ℕ) → y ≡ complement_if s l → int_rem y z ≡ cond s (neg_ℤ (pos (unsigned_abs y % unsigned_abs z))) (pos (unsigned_abs y % unsigned_abs z))
     remainder_by_sign s y z l e = (λ i. int_rem (e i) z) ∙ signed_remainder s l z ∙ sym (λ i. cond s (neg_ℤ (pos (unsigned_abs (e i) % unsigned_abs z))) (pos (unsigned_abs (e i) % unsigned_abs z)))
 
@@ -119,6 +120,6 @@ divided_by_sizes values a b dividend divisor size rest quotient remainder x y c 
     let q = unsigned values size in
     let r = unsigned values rest in
     signed_division values a b quotient remainder x y c q r h k at_a at_b
-      (is_size some ∙ (λ i. m.0 i / n.0 i)) (is_rest some ∙ (λ i. m.0 i % n.0 i)) is_c
-      (is_quotient ∙ ap (λ w. cond c ((2 ^ w - q) % 2 ^ w) q) size_len)
-      (is_remainder ∙ ap (λ w. cond (value_of values x) ((2 ^ w - r) % 2 ^ w) r) rest_len)
+    (is_size some ∙ (λ i. m.0 i / n.0 i)) (is_rest some ∙ (λ i. m.0 i % n.0 i)) is_c
+    (is_quotient ∙ ap (λ w. cond c ((2 ^ w - q) % 2 ^ w) q) size_len)
+    (is_remainder ∙ ap (λ w. cond (value_of values x) ((2 ^ w - r) % 2 ^ w) r) rest_len)

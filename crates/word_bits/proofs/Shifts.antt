@@ -24,25 +24,25 @@ shifted_up {values = values} v a zeros kept moved r bit distance h is_zeros is_k
   where
     by : (bit : Bool) → cond bit (unsigned values moved) (unsigned values a) ≡ (unsigned values a * 2 ^ (distance * digit bit)) % 2 ^ length a
     by false = remainder_from_carry (unsigned values a) (2 ^ length a) 0 (unsigned values a * 2 ^ (distance * 0)) (unsigned-below values a)
-      (let e : distance * 0 ≡ 0 = grind arith in
+        (let e : distance * 0 ≡ 0 = grind arith in
         (let f : unsigned values a + 2 ^ length a * 0 ≡ unsigned values a * 1 = grind arith in f) ∙ ap (λ n. unsigned values a * 2 ^ n) (sym e))
     by true =
-      let n = length a in
-      let rest = drop (n - distance) a in
-      let zeros_len : length zeros ≡ distance = ap length is_zeros ∙ length-replicate distance (negated always) in
-      let kept_len : length kept ≡ n - distance = ap length is_kept ∙ length-take-le (n - distance) a (omega arith) in
-      let none : unsigned values zeros ≡ 0 = ap (unsigned values) is_zeros ∙ unsigned-zeros v distance in
-      let spelled : unsigned values moved ≡ 2 ^ distance * unsigned values kept =
+        let n = length a in
+        let rest = drop (n - distance) a in
+        let zeros_len : length zeros ≡ distance = ap length is_zeros ∙ length-replicate distance (negated always) in
+        let kept_len : length kept ≡ n - distance = ap length is_kept ∙ length-take-le (n - distance) a (omega arith) in
+        let none : unsigned values zeros ≡ 0 = ap (unsigned values) is_zeros ∙ unsigned-zeros v distance in
+        let spelled : unsigned values moved ≡ 2 ^ distance * unsigned values kept =
         ap (unsigned values) is_moved ∙ unsigned-append values zeros kept ∙ (λ i. none i + 2 ^ zeros_len i * unsigned values kept) ∙ (let e : 0 + 2 ^ distance * unsigned values kept ≡ 2 ^ distance * unsigned values kept = omega arith in e) in
-      let width : length moved ≡ n = omega (arith, ap length is_moved, length-append zeros kept, zeros_len, kept_len, h) in
-      let below : unsigned values moved < 2 ^ n = subst (λ m. unsigned values moved < 2 ^ m) width (unsigned-below values moved) in
-      let whole : 2 ^ n ≡ 2 ^ distance * 2 ^ (n - distance) = ap (λ m. 2 ^ m) (let e : n ≡ distance + (n - distance) = omega arith in e) ∙ pow-add 2 distance (n - distance) in
-      let a_is : unsigned values a ≡ unsigned values kept + 2 ^ (n - distance) * unsigned values rest =
+        let width : length moved ≡ n = omega (arith, ap length is_moved, length-append zeros kept, zeros_len, kept_len, h) in
+        let below : unsigned values moved < 2 ^ n = subst (λ m. unsigned values moved < 2 ^ m) width (unsigned-below values moved) in
+        let whole : 2 ^ n ≡ 2 ^ distance * 2 ^ (n - distance) = ap (λ m. 2 ^ m) (let e : n ≡ distance + (n - distance) = omega arith in e) ∙ pow-add 2 distance (n - distance) in
+        let a_is : unsigned values a ≡ unsigned values kept + 2 ^ (n - distance) * unsigned values rest =
         unsigned-parts values a (n - distance) (omega arith) ∙ sym (ap (λ l. unsigned values l + 2 ^ (n - distance) * unsigned values rest) is_kept) in
-      let one : distance * 1 ≡ distance = omega arith in
-      remainder_from_carry (unsigned values moved) (2 ^ n) (unsigned values rest) (unsigned values a * 2 ^ (distance * 1)) below
+        let one : distance * 1 ≡ distance = omega arith in
+        remainder_from_carry (unsigned values moved) (2 ^ n) (unsigned values rest) (unsigned values a * 2 ^ (distance * 1)) below
         ((λ i. spelled i + whole i * unsigned values rest) ∙ regroup (2 ^ distance) (2 ^ (n - distance)) (unsigned values kept) (unsigned values rest)
-          ∙ sym (λ i. a_is i * 2 ^ one i))
+        ∙ sym (λ i. a_is i * 2 ^ one i))
 
 -- one stage more
 pub shift_more : (a s t d m : ℕ) (b : Bool) → s ≡ (a * 2 ^ t) % m → (s * 2 ^ (d * digit b)) % m ≡ (a * 2 ^ (t + d * digit b)) % m
@@ -69,8 +69,8 @@ number-drop n bs h =
     let low = take n bs in
     let len : length low ≡ n = length-take-le n bs h in
     let parts : number bs ≡ number (drop n bs) * 2 ^ n + number low =
-      ap number (sym (take-append-drop n bs)) ∙ number-append low (drop n bs) ∙ ap (λ m. number low + 2 ^ m * number (drop n bs)) len
-      ∙ (let e : number low + 2 ^ n * number (drop n bs) ≡ number (drop n bs) * 2 ^ n + number low = omega (arith, mul_comm (2 ^ n) (number (drop n bs))) in e) in
+    ap number (sym (take-append-drop n bs)) ∙ number-append low (drop n bs) ∙ ap (λ m. number low + 2 ^ m * number (drop n bs)) len
+    ∙ (let e : number low + 2 ^ n * number (drop n bs) ≡ number (drop n bs) * 2 ^ n + number low = omega (arith, mul_comm (2 ^ n) (number (drop n bs))) in e) in
     sym (ap (λ m. m / 2 ^ n) parts ∙ shr_high (number (drop n bs)) n (number low) (subst (λ m. number low < 2 ^ m) len (number-below low)))
 
 pub shifted_down : (values : List Bool) (a filled kept moved r : List Literal) (fill : Literal) (bit : Bool) (distance : ℕ) → distance ≤ length a
@@ -81,16 +81,17 @@ shifted_down values a filled kept moved r fill bit distance h is_filled is_kept 
   where
     f : Bool
     f = value_of values fill
+
     by : (bit : Bool) → number_against f (cond bit (values_of values moved) (values_of values a)) ≡ number_against f (values_of values a) / 2 ^ (distance * digit bit)
     by false = sym (div-one (number_against f (values_of values a))) ∙ ap (λ n. number_against f (values_of values a) / 2 ^ n) (let e : 0 ≡ distance * 0 = omega arith in e)
     by true =
-      let bs = map (xor f) (values_of values a) in
-      let len : length bs ≡ length a = length-map (values_of values a) (xor f) ∙ length-map a (value_of values) in
-      against-filled values kept filled moved distance fill is_filled is_moved
-      ∙ ap (λ l. number_against f (values_of values l)) is_kept
-      ∙ ap number (ap (map (xor f)) (sym (drop-map (value_of values) distance a)) ∙ sym (drop-map (xor f) distance (values_of values a)))
-      ∙ number-drop distance bs (omega (arith, len, h))
-      ∙ ap (λ n. number bs / 2 ^ n) (let e : distance ≡ distance * 1 = omega arith in e)
+        let bs = map (xor f) (values_of values a) in
+        let len : length bs ≡ length a = length-map (values_of values a) (xor f) ∙ length-map a (value_of values) in
+        against-filled values kept filled moved distance fill is_filled is_moved
+        ∙ ap (λ l. number_against f (values_of values l)) is_kept
+        ∙ ap number (ap (map (xor f)) (sym (drop-map (value_of values) distance a)) ∙ sym (drop-map (xor f) distance (values_of values a)))
+        ∙ number-drop distance bs (omega (arith, len, h))
+        ∙ ap (λ n. number bs / 2 ^ n) (let e : distance ≡ distance * 1 = omega arith in e)
 
 -- one stage more
 pub shift_down_more : (a s t d : ℕ) (b : Bool) → s ≡ a / 2 ^ t → s / 2 ^ (d * digit b) ≡ a / 2 ^ (t + d * digit b)

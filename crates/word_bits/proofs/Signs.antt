@@ -55,8 +55,8 @@ pub against_top : (bs : List Bool) → 0 < length bs → number_against (top bs)
 against_top bs h =
     let e : xor (top bs) (top bs) ≡ false = by (top bs) in
     subst (λ n. n < 2 ^ (length bs - 1))
-      (sym (against_by_top (top bs) bs h ∙ ap (λ b. number_against (top bs) (take (length bs - 1) bs) + 2 ^ (length bs - 1) * digit b) e ∙ (let f : number_against (top bs) (take (length bs - 1) bs) + 2 ^ (length bs - 1) * 0 ≡ number_against (top bs) (take (length bs - 1) bs) = omega arith in f)))
-      (low-below (top bs) bs)
+    (sym (against_by_top (top bs) bs h ∙ ap (λ b. number_against (top bs) (take (length bs - 1) bs) + 2 ^ (length bs - 1) * digit b) e ∙ (let f : number_against (top bs) (take (length bs - 1) bs) + 2 ^ (length bs - 1) * 0 ≡ number_against (top bs) (take (length bs - 1) bs) = omega arith in f)))
+    (low-below (top bs) bs)
   where
     by : (b : Bool) → xor b b ≡ false
     by true = refl
@@ -125,6 +125,7 @@ by_filling values a r fill copy_sign made shrinks h wider fills same = (zeros, s
     zeros e =
         let f : value_of values fill ≡ false = fills ∙ ap (λ b. b && top (values_of values a)) e in
         sym (against-false (values_of values r)) ∙ subst (λ b. number_against b (values_of values r) ≡ made (number_against b (values_of values a))) f same ∙ ap made (against-false (values_of values a))
+
     signs : copy_sign ≡ true → signed values r ≡ complement_if (top (values_of values a)) (made (number_against (top (values_of values a)) (values_of values a)))
     signs e =
         let t = top (values_of values a) in
@@ -133,8 +134,8 @@ by_filling values a r fill copy_sign made shrinks h wider fills same = (zeros, s
         let a_len : length (values_of values a) ≡ length a = length-map a (value_of values) in
         let r_len : length (values_of values r) ≡ length r = length-map r (value_of values) in
         let small : number_against t (values_of values r) < 2 ^ (length (values_of values r) - 1) =
-          subst (λ m. m < 2 ^ (length (values_of values r) - 1)) (sym k)
-            (small_too (made (number_against t (values_of values a))) (number_against t (values_of values a)) (length (values_of values a) - 1) (length (values_of values r) - 1) (shrinks (number_against t (values_of values a))) (omega (arith, a_len, r_len)) (against_top (values_of values a) (omega (arith, a_len)))) in
+        subst (λ m. m < 2 ^ (length (values_of values r) - 1)) (sym k)
+        (small_too (made (number_against t (values_of values a))) (number_against t (values_of values a)) (length (values_of values a) - 1) (length (values_of values r) - 1) (shrinks (number_against t (values_of values a))) (omega (arith, a_len, r_len)) (against_top (values_of values a) (omega (arith, a_len)))) in
         signed_is t (values_of values r) (omega (arith, r_len)) small ∙ ap (complement_if t) k
 
 pub signed_by_sign : (values : List Bool) (a : List Literal) → 0 < length a → signed values a ≡ complement_if (top (values_of values a)) (number_against (top (values_of values a)) (values_of values a))
@@ -152,7 +153,7 @@ extended values a above r n fill copy_sign h is_above is fills =
 signed_low : (bs : List Bool) → 0 < length bs → signed_number bs ≡ pos (number (take (length bs - 1) bs)) -ℤ pos (2 ^ (length bs - 1) * digit (top bs))
 signed_low bs h =
     by (top bs) (number bs) (number (take (length bs - 1) bs)) (2 ^ (length bs - 1)) (2 ^ length bs) (number_by_top bs h)
-      (ap (λ n. 2 ^ n) (let e : length bs ≡ (length bs - 1) + 1 = omega arith in e) ∙ pow_more (length bs - 1))
+    (ap (λ n. 2 ^ n) (let e : length bs ≡ (length bs - 1) + 1 = omega arith in e) ∙ pow_more (length bs - 1))
   where
     by : (t : Bool) (n l p w : ℕ) → n ≡ l + p * digit t → w ≡ 2 * p → pos n -ℤ pos (cond t w 0) ≡ pos l -ℤ pos (p * digit t)
     by true n l p w e f = omega (arith, ints, e, f)
@@ -196,9 +197,9 @@ signed_order values a b first second x y h same at_a at_b is_first is_second =
     let m = unsigned values (take (length b - 1) b) in
     let width : 2 ^ (length b - 1) ≡ p = ap (λ n. 2 ^ (n - 1)) (sym same) in
     sym (lower_by_sign (value_of values x) (value_of values y) l m p (signed values a) (signed values b)
-          (below a) (subst (λ q. m < q) width (below b))
-          (signed_parts values a x h at_a) (signed_parts values b y (omega (arith, same)) at_b ∙ ap (λ q. pos m -ℤ pos (q * digit (value_of values y))) width)
-        ∙ sym (λ i. ltb (exchanged values a first y is_first i) ((exchanged values b second x is_second ∙ ap (λ q. m + q * digit (value_of values x)) width) i)))
+    (below a) (subst (λ q. m < q) width (below b))
+    (signed_parts values a x h at_a) (signed_parts values b y (omega (arith, same)) at_b ∙ ap (λ q. pos m -ℤ pos (q * digit (value_of values y))) width)
+    ∙ sym (λ i. ltb (exchanged values a first y is_first i) ((exchanged values b second x is_second ∙ ap (λ q. m + q * digit (value_of values x)) width) i)))
   where
     below : (c : List Literal) → unsigned values (take (length c - 1) c) < 2 ^ (length c - 1)
     below c = subst (λ n. unsigned values (take (length c - 1) c) < 2 ^ n) (length-take-le (length c - 1) c (omega arith)) (unsigned-below values (take (length c - 1) c))

@@ -1,16 +1,16 @@
 #![tactic(auto, using(crate::proofs::Circuits::circuits, crate::proofs::Circuits::belongs))]
 
-ghost use Rattle.std.specs.Prelude.{◌≡◌, ℕ, ◌+◌, ◌*◌, ◌/◌, ◌%◌, ◌^◌, ◌<◌, ◌≤◌, Bool, List, length, IfOk, ◌-◌, int_div, int_rem, if◌then◌else◌};
+ghost use Rattle.std.specs.Prelude.{◌≡◌, ℕ, ◌+◌, ◌*◌, ◌/◌, ◌%◌, ◌^◌, ◌<◌, ◌≤◌, Bool, List, length, IfOk, ◌-◌, ◌==◌, int_div, int_rem, if◌then◌else◌};
 ghost use Rattle.gates.specs.Nodes.{Grows, Belongs, AllBelong};
 ghost use Rattle.gates.specs.Valuation.{value_of, IsValuation};
 ghost use Rattle.word_bits.specs.Number.{digit, wrapped};
 ghost use Rattle.word_bits.specs.Words.{unsigned, signed};
 
+use crate::bit::differ;
 use crate::choice::mux;
-use crate::bit::{differ, or};
 use crate::sum::{neg, subtract};
-use crate::vector::{concat, front, repeated};
-use gates::{Gates, Lit, Lits};
+use crate::vector::{concat, front, repeated, tail};
+use gates::{Gates, Lit, Lits, lit_not};
 use std::alloc::{AllocError, Global};
 
 /// The quotient and the remainder of two vectors where the divisor is not 0: a restoring division, from the highest bit down.
@@ -33,7 +33,7 @@ pub fn udiv_rem(
     ensures grows { Grows g.old g.new }
 {
     let mut quotient = Lits::new(alloc);
-    let mut remainder = repeated(alloc, Lit::FALSE, a.len())?;
+    let mut remainder = Lits::new(alloc);
     for i in 0..a.len() {
         let bit = a.get(a.len() - 1 - i);
         let (digit, rest) = divide_bit(alloc, g, &remainder, bit, b)?;
@@ -47,7 +47,8 @@ pub fn udiv_rem(
 /// One digit of a quotient, and the remainder after it: the remainder before it with the next bit of the dividend below,
 /// less the divisor where that is not above it.
 ///
-/// The bit that leaves the remainder at the top needs no place in the difference: where it is set, the divisor is not above.
+/// The remainder has as many bits as the dividend had so far. So only the lowest bits of the divisor are subtracted,
+/// and the digit is 0 where one of its others is set: half the gates of a subtraction over the whole width.
 fn divide_bit(
     alloc: Global,
     g: &mut Gates,
@@ -55,26 +56,42 @@ fn divide_bit(
     bit: Lit,
     divisor: &Lits,
 ) -> Result<(Lit, Lits), AllocError>
-    requires bits { 0 < length remainder.now }
-    requires widths { length remainder.now ≡ length divisor.now }
+    requires within { length remainder.now < length divisor.now }
     requires first { AllBelong g.old remainder.now }
     requires second { Belongs g.old bit }
     requires third { AllBelong g.old divisor.now }
     ensures division { IfOk result (λ r. (values : List Bool) → IsValuation g.new values → unsigned values remainder.now < unsigned values divisor.now →
         (unsigned values r.1 + digit (value_of values r.0) * unsigned values divisor.now ≡ digit (value_of values bit) + 2 * unsigned values remainder.now) × (unsigned values r.1 < unsigned values divisor.now)) }
-    ensures width { IfOk result (λ r. length r.1 ≡ length remainder.now) }
+    ensures width { IfOk result (λ r. length r.1 ≡ length remainder.now + 1) }
     ensures digit_belongs { IfOk result (λ r. Belongs g.new r.0) }
     ensures belongs { IfOk result (λ r. AllBelong g.new r.1) }
     ensures grows { Grows g.old g.new }
 {
-    let above = remainder.get(remainder.len() - 1);
-    let kept = front(alloc, remainder, remainder.len() - 1)?;
     let lowest = repeated(alloc, bit, 1)?;
-    let shifted = concat(alloc, &kept, &lowest)?;
-    let (difference, carry) = subtract(alloc, g, &shifted, divisor)?;
-    let digit = or(g, above, carry)?;
+    let shifted = concat(alloc, remainder, &lowest)?;
+    let low = front(alloc, divisor, shifted.len())?;
+    let high = tail(alloc, divisor, shifted.len())?;
+    let (difference, carry) = subtract(alloc, g, &shifted, &low)?;
+    let small = is_zero(g, &high)?;
+    let digit = g.and(small, carry)?;
     let rest = mux(alloc, g, digit, &difference, &shifted)?;
     Ok((digit, rest))
+}
+
+/// Whether no bit of a vector is set, asked from the highest down: vectors that end alike share gates.
+fn is_zero(g: &mut Gates, a: &Lits) -> Result<Lit, AllocError>
+    requires constant { 0 < length g.old }
+    requires first { AllBelong g.old a.now }
+    ensures meaning { IfOk result (λ l. (values : List Bool) → IsValuation g.new values → value_of values l ≡ (unsigned values a.now == 0)) }
+    ensures belongs { IfOk result (Belongs g.new) }
+    ensures grows { Grows g.old g.new }
+{
+    let mut none = Lit::TRUE;
+    for i in 0..a.len() {
+        let bit = a.get(a.len() - 1 - i);
+        none = g.and(none, lit_not(bit))?;
+    }
+    Ok(none)
 }
 
 /// The quotient and the remainder of two signed vectors where the divisor is not 0: the quotient is rounded toward zero,

@@ -52,13 +52,7 @@ fn single(alloc: Global, bit: Lit) -> Result<Lits, AllocError> {
 }
 
 /// The circuit of a call.
-fn circuit(
-    alloc: Global,
-    g: &mut Gates,
-    call: Call,
-    a: &Lits,
-    b: &Lits,
-) -> Result<Lits, AllocError>
+fn circuit(alloc: Global, g: &mut Gates, call: Call, a: &Lits, b: &Lits) -> Result<Lits, AllocError>
     requires bits { 0 < length a.now }
     requires widths { length a.now ≡ length b.now }
     requires first { AllBelong g.old a.now }
@@ -285,8 +279,8 @@ fn gates_of_each_call(rt: HostRuntime) -> Result<(), Fail> {
         ("sub", Call::Sub, [53, 109, 221, 445]),
         ("neg", Call::Neg, [21, 45, 93, 189]),
         ("mul", Call::Mul, [204, 916, 3876, 15940]),
-        ("udiv_rem", Call::Quotient, [581, 2437, 9989, 40453]),
-        ("sdiv_rem", Call::SignedQuotient, [760, 2808, 10744, 41976]),
+        ("udiv_rem", Call::Quotient, [349, 1341, 5245, 20733]),
+        ("sdiv_rem", Call::SignedQuotient, [528, 1712, 6000, 22256]),
         ("shl", Call::ShiftUp, [66, 178, 450, 1090]),
         ("shr", Call::ShiftDown, [66, 178, 450, 1090]),
         ("signed shr", Call::SignedShiftDown, [84, 213, 518, 1223]),

@@ -69,10 +69,7 @@ pub fn select(alloc: Global, a: &Lits, high: usize, low: usize) -> Result<Lits, 
     ensures width { IfOk result (λ r. length r ≡ high + 1 - low) }
     ensures belongs { IfOk result (λ r. span r ≤ span a.now) }
 {
-    Ok(Lits::from_vec(Vec::from_slice(
-        alloc,
-        &a.as_slice()[low..high + 1],
-    )?))
+    Ok(Lits::from_vec(Vec::from_slice(alloc, &a.as_slice()[low..high + 1])?))
 }
 
 /// The bits of `low`, and those of `high` above them.
@@ -88,12 +85,7 @@ pub fn concat(alloc: Global, high: &Lits, low: &Lits) -> Result<Lits, AllocError
 }
 
 /// A vector of `width` bits with the same number, or where `copy_sign` with the same signed number.
-pub fn extend(
-    alloc: Global,
-    a: &Lits,
-    width: usize,
-    copy_sign: bool,
-) -> Result<Lits, AllocError>
+pub fn extend(alloc: Global, a: &Lits, width: usize, copy_sign: bool) -> Result<Lits, AllocError>
     requires bits { 0 < length a.now }
     requires wider { length a.now ≤ width }
     ensures number { IfOk result (λ r. (nodes : List Node) (values : List Bool) → IsValuation nodes values → copy_sign ≡ false → unsigned values r ≡ unsigned values a.now) }

@@ -12,5 +12,5 @@ returns-clause-meaning c values v =
     let neither = c.in_ok-neither.ensures.meaning values v2 in
     c.in_ok-differ.ensures.meaning values v
     ∙ (λ i. (c.lit_not-3.ensures.value values ∙ (λ j. not (both j))) i
-        && (c.lit_not-4.ensures.value values ∙ (λ j. not ((neither ∙ (λ k. c.lit_not.ensures.value values k && c.lit_not-2.ensures.value values k)) j))) i)
+    && (c.lit_not-4.ensures.value values ∙ (λ j. not ((neither ∙ (λ k. c.lit_not.ensures.value values k && c.lit_not-2.ensures.value values k)) j))) i)
     ∙ xor-gates (value_of values c.args.a) (value_of values c.args.b)

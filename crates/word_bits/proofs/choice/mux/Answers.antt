@@ -13,10 +13,10 @@ loop-i-preserved c =
     record {
       width = grind (arith, common_steps);
       bits = λ values v.
-        rw c.in_ok-push.ensures.ok
+          rw c.in_ok-push.ensures.ok
           (chosen_more values c.args.a.now c.args.b.now c.loop-i.out c.loop-i.i (value_of values c.args.c) c.get.result c.get-in-loop-i.result c.in_ok-bit.bit
-            in_a in_b c.get.ensures c.get-in-loop-i.ensures (c.in_ok-bit.ensures.meaning values v)
-            (c.loop-i.invariant.bits values (IsValuation-Grows c.in_ok-bit.ensures.grows v)));
+          in_a in_b c.get.ensures c.get-in-loop-i.ensures (c.in_ok-bit.ensures.meaning values v)
+          (c.loop-i.invariant.bits values (IsValuation-Grows c.in_ok-bit.ensures.grows v)));
       belongs = grind (arith, belongs, c.in_ok-push.ensures.ok);
       grows = grind (arith, circuits);
     }

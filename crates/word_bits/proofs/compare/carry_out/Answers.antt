@@ -12,7 +12,7 @@ loop-i-preserved c =
     let in_b : c.loop-i.i < length c.args.b.now = omega arith in
     record {
       meaning = λ values v.
-        carry_more values c.args.a.now c.args.b.now c.loop-i.i (digit (value_of values c.args.carry)) c.get.result c.get-in-loop-i.result c.loop-i.through c.in_ok-through.through
+          carry_more values c.args.a.now c.args.b.now c.loop-i.i (digit (value_of values c.args.carry)) c.get.result c.get-in-loop-i.result c.loop-i.through c.in_ok-through.through
           in_a in_b (digit_small (value_of values c.args.carry)) c.get.ensures c.get-in-loop-i.ensures (c.in_ok-through.ensures.meaning values v)
           (c.loop-i.invariant.meaning values (IsValuation-Grows c.in_ok-through.ensures.grows v));
       belongs = c.in_ok-through.ensures.belongs;

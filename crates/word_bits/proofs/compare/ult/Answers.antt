@@ -14,5 +14,5 @@ returns-clause-meaning c values v =
     c.lit_not.ensures.value values
     ∙ ap not (c.in_ok-above.ensures.meaning values v ∙ ap (λ d. leb p (unsigned values a + o + digit d)) (value_of-constant v).0)
     ∙ carry_tells (unsigned values a) (unsigned values b) o p (unsigned-below values a)
-        (subst (λ n. unsigned values b < 2 ^ n) (sym c.requires.widths) (unsigned-below values b))
-        (subst (λ n. o + unsigned values b + 1 ≡ 2 ^ n) (sym c.requires.widths) (c.in_ok-other.ensures.number values))
+    (subst (λ n. unsigned values b < 2 ^ n) (sym c.requires.widths) (unsigned-below values b))
+    (subst (λ n. o + unsigned values b + 1 ≡ 2 ^ n) (sym c.requires.widths) (c.in_ok-other.ensures.number values))

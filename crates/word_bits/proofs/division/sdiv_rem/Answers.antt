@@ -13,12 +13,12 @@ returns-clause-quotient c values v positive =
     let v2 = IsValuation-Grows c.in_ok-quotient.ensures.grows v3 in
     let v1 = IsValuation-Grows c.in_ok-divisor.ensures.grows v2 in
     (divided_by_sizes values c.args.a.now c.args.b.now c.in_ok-dividend.dividend c.in_ok-divisor.divisor c.in_ok-quotient.quotient c.in_ok-quotient.remainder c.in_ok-signed_quotient.signed_quotient c.in_ok-signed_remainder.signed_remainder
-      c.get-sign.result c.get-other.result (value_of values c.in_ok-apart.apart) c.requires.bits c.requires.widths
-      (c.get-sign.ensures ∙ ap (λ n. get_or c.args.a.now (n - 1) always) c.len.ensures.count) (c.get-other.ensures ∙ ap (λ n. get_or c.args.b.now (n - 1) always) c.len-2.ensures.count)
-      (c.in_ok-dividend.ensures.number values v1) (c.in_ok-divisor.ensures.number values v2)
-      (c.in_ok-quotient.ensures.quotient_width ∙ c.in_ok-dividend.ensures.width) (c.in_ok-quotient.ensures.remainder_width ∙ c.in_ok-dividend.ensures.width)
-      (c.in_ok-quotient.ensures.quotient values v3) (c.in_ok-quotient.ensures.remainder values v3) (c.in_ok-apart.ensures.meaning values v4)
-      (c.in_ok-signed_quotient.ensures.number values v5) (c.in_ok-signed_remainder.ensures.number values v) positive).0
+    c.get-sign.result c.get-other.result (value_of values c.in_ok-apart.apart) c.requires.bits c.requires.widths
+    (c.get-sign.ensures ∙ ap (λ n. get_or c.args.a.now (n - 1) always) c.len.ensures.count) (c.get-other.ensures ∙ ap (λ n. get_or c.args.b.now (n - 1) always) c.len-2.ensures.count)
+    (c.in_ok-dividend.ensures.number values v1) (c.in_ok-divisor.ensures.number values v2)
+    (c.in_ok-quotient.ensures.quotient_width ∙ c.in_ok-dividend.ensures.width) (c.in_ok-quotient.ensures.remainder_width ∙ c.in_ok-dividend.ensures.width)
+    (c.in_ok-quotient.ensures.quotient values v3) (c.in_ok-quotient.ensures.remainder values v3) (c.in_ok-apart.ensures.meaning values v4)
+    (c.in_ok-signed_quotient.ensures.number values v5) (c.in_ok-signed_remainder.ensures.number values v) positive).0
 
 pub returns-clause-remainder : goal.returns-clause-remainder
 returns-clause-remainder c values v positive =
@@ -28,9 +28,9 @@ returns-clause-remainder c values v positive =
     let v2 = IsValuation-Grows c.in_ok-quotient.ensures.grows v3 in
     let v1 = IsValuation-Grows c.in_ok-divisor.ensures.grows v2 in
     (divided_by_sizes values c.args.a.now c.args.b.now c.in_ok-dividend.dividend c.in_ok-divisor.divisor c.in_ok-quotient.quotient c.in_ok-quotient.remainder c.in_ok-signed_quotient.signed_quotient c.in_ok-signed_remainder.signed_remainder
-      c.get-sign.result c.get-other.result (value_of values c.in_ok-apart.apart) c.requires.bits c.requires.widths
-      (c.get-sign.ensures ∙ ap (λ n. get_or c.args.a.now (n - 1) always) c.len.ensures.count) (c.get-other.ensures ∙ ap (λ n. get_or c.args.b.now (n - 1) always) c.len-2.ensures.count)
-      (c.in_ok-dividend.ensures.number values v1) (c.in_ok-divisor.ensures.number values v2)
-      (c.in_ok-quotient.ensures.quotient_width ∙ c.in_ok-dividend.ensures.width) (c.in_ok-quotient.ensures.remainder_width ∙ c.in_ok-dividend.ensures.width)
-      (c.in_ok-quotient.ensures.quotient values v3) (c.in_ok-quotient.ensures.remainder values v3) (c.in_ok-apart.ensures.meaning values v4)
-      (c.in_ok-signed_quotient.ensures.number values v5) (c.in_ok-signed_remainder.ensures.number values v) positive).1
+    c.get-sign.result c.get-other.result (value_of values c.in_ok-apart.apart) c.requires.bits c.requires.widths
+    (c.get-sign.ensures ∙ ap (λ n. get_or c.args.a.now (n - 1) always) c.len.ensures.count) (c.get-other.ensures ∙ ap (λ n. get_or c.args.b.now (n - 1) always) c.len-2.ensures.count)
+    (c.in_ok-dividend.ensures.number values v1) (c.in_ok-divisor.ensures.number values v2)
+    (c.in_ok-quotient.ensures.quotient_width ∙ c.in_ok-dividend.ensures.width) (c.in_ok-quotient.ensures.remainder_width ∙ c.in_ok-dividend.ensures.width)
+    (c.in_ok-quotient.ensures.quotient values v3) (c.in_ok-quotient.ensures.remainder values v3) (c.in_ok-apart.ensures.meaning values v4)
+    (c.in_ok-signed_quotient.ensures.number values v5) (c.in_ok-signed_remainder.ensures.number values v) positive).1

@@ -1,11 +1,10 @@
-use Rattle.std.proofs.Common.{◌≡◌, ◌+◌, ◌*◌, ◌-◌, ◌/◌, ◌^◌, ◌<◌, Bool, List, length, get_or, drop, ap, sym, ◌∙◌, subst, arith}
-use Rattle.std.proofs.lemmas.List.{length-append, length-replicate, drop_all}
+use Rattle.std.proofs.Common.{◌≡◌, ◌+◌, ◌*◌, ◌-◌, ◌/◌, ◌<◌, length, get_or, drop, ap, sym, ◌∙◌, subst, arith}
+use Rattle.std.proofs.lemmas.List.{length-append, drop_all}
 use Rattle.std.proofs.lemmas.Nat.{div-mul-add}
-use Rattle.gates.specs.Literal.{Literal, always}
+use Rattle.gates.specs.Literal.{always}
 use Rattle.gates.proofs.Meaning.{IsValuation-Grows}
 use Rattle.word_bits.specs.Words.{unsigned}
 use Rattle.word_bits.proofs.Circuits.{circuits, belongs}
-use Rattle.word_bits.proofs.Numbers.{unsigned-zeros, unsigned-below}
 use Rattle.word_bits.proofs.Products.{divide_more}
 use Rattle.word_bits.proofs.division.udiv_rem.Goals as goal
 
@@ -13,13 +12,13 @@ pub loop-i-init : goal.loop-i-init
 loop-i-init c =
     record {
       quotient_width = ap length c.new-quotient.ensures;
-      remainder_width = ap length c.in_ok-remainder.ensures ∙ length-replicate _ _ ∙ c.len.ensures.count;
+      remainder_width = ap length c.new-remainder.ensures;
       spells = λ values v positive.
-        ap (unsigned values) (drop_all (length c.args.a.now - 0) c.args.a.now (omega arith))
-        ∙ sym ((λ i. unsigned values (c.new-quotient.ensures i) * unsigned values c.args.b.now + (ap (unsigned values) c.in_ok-remainder.ensures ∙ unsigned-zeros v _) i) ∙ (let e : 0 * unsigned values c.args.b.now + 0 ≡ 0 = grind arith in e));
-      below = λ values v positive. subst (λ n. n < unsigned values c.args.b.now) (sym (ap (unsigned values) c.in_ok-remainder.ensures ∙ unsigned-zeros v _)) positive;
+          ap (unsigned values) (drop_all (length c.args.a.now - 0) c.args.a.now (omega arith))
+          ∙ sym ((λ i. unsigned values (c.new-quotient.ensures i) * unsigned values c.args.b.now + unsigned values (c.new-remainder.ensures i)) ∙ (let e : 0 * unsigned values c.args.b.now + 0 ≡ 0 = grind arith in e));
+      below = λ values v positive. subst (λ l. unsigned values l < unsigned values c.args.b.now) (sym c.new-remainder.ensures) positive;
       quotient_belongs = grind (arith, belongs, c.new-quotient.ensures);
-      remainder_belongs = grind (arith, belongs, c.in_ok-remainder.ensures);
+      remainder_belongs = grind (arith, belongs, c.new-remainder.ensures);
       grows = grind (arith, circuits);
     }
 
@@ -28,18 +27,18 @@ loop-i-preserved c =
     let a = c.args.a.now in
     let b = c.args.b.now in
     let in_a : c.loop-i.i < length a = omega arith in
-    let at = c.get-bit.ensures ∙ ap (λ n. get_or a (n - 1 - c.loop-i.i) always) c.len-in-loop-i.ensures.count in
+    let at = c.get-bit.ensures ∙ ap (λ n. get_or a (n - 1 - c.loop-i.i) always) c.len.ensures.count in
     record {
       quotient_width = omega (arith, ap length c.in_ok-quotient.ensures.literals, ap length c.in_ok-single.ensures, length-append c.in_ok-single.single c.loop-i.quotient, c.loop-i.invariant.quotient_width);
-      remainder_width = c.in_ok-digit.ensures.width ∙ c.loop-i.invariant.remainder_width;
+      remainder_width = omega (arith, c.in_ok-digit.ensures.width, c.loop-i.invariant.remainder_width);
       spells = λ values v positive.
-        let v0 = IsValuation-Grows c.in_ok-digit.ensures.grows v in
-        let r = c.in_ok-digit.ensures.division values v (c.loop-i.invariant.below values v0 positive) in
-        divide_more values a b c.loop-i.quotient c.in_ok-quotient.quotient c.in_ok-single.single c.loop-i.remainder c.in_ok-digit.rest c.loop-i.i c.get-bit.result c.in_ok-digit.digit
+          let v0 = IsValuation-Grows c.in_ok-digit.ensures.grows v in
+          let r = c.in_ok-digit.ensures.division values v (c.loop-i.invariant.below values v0 positive) in
+          divide_more values a b c.loop-i.quotient c.in_ok-quotient.quotient c.in_ok-single.single c.loop-i.remainder c.in_ok-digit.rest c.loop-i.i c.get-bit.result c.in_ok-digit.digit
           in_a at c.in_ok-single.ensures c.in_ok-quotient.ensures.literals r.0 (c.loop-i.invariant.spells values v0 positive);
       below = λ values v positive.
-        let v0 = IsValuation-Grows c.in_ok-digit.ensures.grows v in
-        (c.in_ok-digit.ensures.division values v (c.loop-i.invariant.below values v0 positive)).1;
+          let v0 = IsValuation-Grows c.in_ok-digit.ensures.grows v in
+          (c.in_ok-digit.ensures.division values v (c.loop-i.invariant.below values v0 positive)).1;
       quotient_belongs = grind (arith, belongs, c.in_ok-quotient.ensures.literals, c.in_ok-single.ensures);
       remainder_belongs = c.in_ok-digit.ensures.belongs;
       grows = grind (arith, circuits);

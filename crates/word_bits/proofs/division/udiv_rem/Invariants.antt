@@ -8,7 +8,7 @@ use Rattle.word_bits.proofs.division.udiv_rem.Given as goal
 abbrev pub invariant-loop-i : goal.invariant-loop-i
 invariant-loop-i l = record {
   quotient_width : length l.quotient ≡ l.i;
-  remainder_width : length l.remainder ≡ length l.a;
+  remainder_width : length l.remainder ≡ l.i;
   spells : (values : List Bool) → IsValuation l.g values → 0 < unsigned values l.b → unsigned values (drop (length l.a - l.i) l.a) ≡ unsigned values l.quotient * unsigned values l.b + unsigned values l.remainder;
   below : (values : List Bool) → IsValuation l.g values → 0 < unsigned values l.b → unsigned values l.remainder < unsigned values l.b;
   quotient_belongs : AllBelong l.g l.quotient;

@@ -11,7 +11,7 @@ returns-clause-sum c values v =
     let v0 = IsValuation-Grows c.in_ok-sum.ensures.grows v in
     let none = ap (unsigned values) c.in_ok-zeros.ensures ∙ unsigned-zeros v0 _ in
     row_spelled values c.args.product.now c.args.a.now c.in_ok-low.low c.in_ok-high.high c.in_ok-part.part c.in_ok-row.row c.in_ok-sum.sum c.in_ok-whole.whole
-      c.args.at (value_of values c.args.bit) c.requires.within c.requires.widths c.in_ok-low.ensures c.in_ok-high.ensures
-      (c.in_ok-part.ensures ∙ ap (λ n. take (n - c.args.at) c.args.a.now) c.len.ensures.count)
-      (c.in_ok-row.ensures.number values v0 ∙ ap (λ n. cond (value_of values c.args.bit) (unsigned values c.in_ok-part.part) n) none)
-      (c.in_ok-sum.ensures.sum values v) c.in_ok-sum.ensures.width c.in_ok-whole.ensures.literals
+    c.args.at (value_of values c.args.bit) c.requires.within c.requires.widths c.in_ok-low.ensures c.in_ok-high.ensures
+    (c.in_ok-part.ensures ∙ ap (λ n. take (n - c.args.at) c.args.a.now) c.len.ensures.count)
+    (c.in_ok-row.ensures.number values v0 ∙ ap (λ n. cond (value_of values c.args.bit) (unsigned values c.in_ok-part.part) n) none)
+    (c.in_ok-sum.ensures.sum values v) c.in_ok-sum.ensures.width c.in_ok-whole.ensures.literals

@@ -24,14 +24,14 @@ loop-i-preserved c =
     record {
       width = c.in_ok-product-2.ensures.width;
       spells = λ values v.
-        let a = unsigned values c.args.a.now in
-        let m = 2 ^ length c.args.a.now in
-        let t = unsigned values (take c.loop-i.i c.args.b.now) in
-        let p = 2 ^ c.loop-i.i in
-        let d = digit (value_of values c.get.result) in
-        c.in_ok-product-2.ensures.sum values v
-        ∙ mod_row a t p d _ m (c.loop-i.invariant.spells values (IsValuation-Grows c.in_ok-product-2.ensures.grows v))
-        ∙ ap (λ n. (a * n) % m) (sym (unsigned-more values c.args.b.now c.loop-i.i in_b ∙ ap (λ l. t + p * digit (value_of values l)) (sym c.get.ensures)));
+          let a = unsigned values c.args.a.now in
+          let m = 2 ^ length c.args.a.now in
+          let t = unsigned values (take c.loop-i.i c.args.b.now) in
+          let p = 2 ^ c.loop-i.i in
+          let d = digit (value_of values c.get.result) in
+          c.in_ok-product-2.ensures.sum values v
+          ∙ mod_row a t p d _ m (c.loop-i.invariant.spells values (IsValuation-Grows c.in_ok-product-2.ensures.grows v))
+          ∙ ap (λ n. (a * n) % m) (sym (unsigned-more values c.args.b.now c.loop-i.i in_b ∙ ap (λ l. t + p * digit (value_of values l)) (sym c.get.ensures)));
       belongs = c.in_ok-product-2.ensures.belongs;
       grows = grind (arith, circuits);
     }

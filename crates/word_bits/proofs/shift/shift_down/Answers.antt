@@ -5,4 +5,4 @@ use Rattle.word_bits.proofs.shift.shift_down.Goals as goal
 pub returns-clause-shifted : goal.returns-clause-shifted
 returns-clause-shifted c values v =
     shifted_down values c.args.a.now c.in_ok-filled.filled c.in_ok-kept.kept c.in_ok-moved.moved c.in_ok-shifted.shifted c.args.fill (value_of values c.args.bit) c.args.distance c.requires.within
-      c.in_ok-filled.ensures c.in_ok-kept.ensures c.in_ok-moved.ensures.literals (c.in_ok-shifted.ensures.bits values v)
+    c.in_ok-filled.ensures c.in_ok-kept.ensures c.in_ok-moved.ensures.literals (c.in_ok-shifted.ensures.bits values v)

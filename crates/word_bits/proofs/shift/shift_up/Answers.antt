@@ -6,4 +6,4 @@ use Rattle.word_bits.proofs.shift.shift_up.Goals as goal
 pub returns-clause-shifted : goal.returns-clause-shifted
 returns-clause-shifted c values v =
     shifted_up v c.args.a.now c.in_ok-zeros.zeros c.in_ok-kept.kept c.in_ok-moved.moved c.in_ok-shifted.shifted (value_of values c.args.bit) c.args.distance c.requires.within
-      c.in_ok-zeros.ensures (c.in_ok-kept.ensures ∙ ap (λ n. take (n - c.args.distance) c.args.a.now) c.len.ensures.count) c.in_ok-moved.ensures.literals (c.in_ok-shifted.ensures.number values v)
+    c.in_ok-zeros.ensures (c.in_ok-kept.ensures ∙ ap (λ n. take (n - c.args.distance) c.args.a.now) c.len.ensures.count) c.in_ok-moved.ensures.literals (c.in_ok-shifted.ensures.number values v)

@@ -26,15 +26,15 @@ loop-i-preserved c =
       distance = omega (arith, c.loop-i.invariant.distance, pow_more c.loop-i.i);
       width = c.in_ok-shifted-2.ensures.width ∙ c.loop-i.invariant.width;
       spells = λ values v.
-        let a = unsigned values c.args.a.now in
-        let s = unsigned values c.loop-i.shifted in
-        let t = unsigned values (take c.loop-i.i c.args.by.now) in
-        let b = value_of values c.get.result in
-        let m = 2 ^ length c.args.a.now in
-        c.in_ok-shifted-2.ensures.shifted values v
-        ∙ (λ j. (s * 2 ^ (c.loop-i.invariant.distance j * digit b)) % 2 ^ (c.loop-i.invariant.width j))
-        ∙ shift_more a s t (2 ^ c.loop-i.i) m b (c.loop-i.invariant.spells values (IsValuation-Grows c.in_ok-shifted-2.ensures.grows v))
-        ∙ ap (λ n. (a * 2 ^ n) % m) (sym (unsigned-more values c.args.by.now c.loop-i.i in_by ∙ ap (λ l. t + 2 ^ c.loop-i.i * digit (value_of values l)) (sym c.get.ensures)));
+          let a = unsigned values c.args.a.now in
+          let s = unsigned values c.loop-i.shifted in
+          let t = unsigned values (take c.loop-i.i c.args.by.now) in
+          let b = value_of values c.get.result in
+          let m = 2 ^ length c.args.a.now in
+          c.in_ok-shifted-2.ensures.shifted values v
+          ∙ (λ j. (s * 2 ^ (c.loop-i.invariant.distance j * digit b)) % 2 ^ (c.loop-i.invariant.width j))
+          ∙ shift_more a s t (2 ^ c.loop-i.i) m b (c.loop-i.invariant.spells values (IsValuation-Grows c.in_ok-shifted-2.ensures.grows v))
+          ∙ ap (λ n. (a * 2 ^ n) % m) (sym (unsigned-more values c.args.by.now c.loop-i.i in_by ∙ ap (λ l. t + 2 ^ c.loop-i.i * digit (value_of values l)) (sym c.get.ensures)));
       belongs = c.in_ok-shifted-2.ensures.belongs;
       grows = grind (arith, circuits);
     }
@@ -44,4 +44,4 @@ returns-clause-shifted c values v small =
     let done : (length c.args.by.now ≤ c.loop-i.i) ⊎ (length c.args.a.now < 2 ^ c.loop-i.i) = grind (arith, c.loop-i.invariant.distance) in
     c.loop-i.invariant.spells values v
     ∙ ap (λ n. (unsigned values c.args.a.now * 2 ^ n) % 2 ^ length c.args.a.now)
-        (amount_whole values c.args.by.now c.loop-i.i (length c.args.a.now) c.loop-i.invariant.within done small)
+    (amount_whole values c.args.by.now c.loop-i.i (length c.args.a.now) c.loop-i.invariant.within done small)

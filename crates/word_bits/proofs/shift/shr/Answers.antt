@@ -14,8 +14,8 @@ loop-i-init c = record {
   distance = search rules;
   width = ap length c.in_ok-shifted.ensures;
   spells = λ values v.
-    let f = value_of values c.filling-fill.result in
-    ap (λ l. number_against f (values_of values l)) c.in_ok-shifted.ensures ∙ sym (div-one (number_against f (values_of values c.args.a.now)));
+      let f = value_of values c.filling-fill.result in
+      ap (λ l. number_against f (values_of values l)) c.in_ok-shifted.ensures ∙ sym (div-one (number_against f (values_of values c.args.a.now)));
   belongs = grind (arith, belongs, c.in_ok-shifted.ensures);
   grows = grind (arith, circuits);
 }
@@ -28,15 +28,15 @@ loop-i-preserved c =
       distance = omega (arith, c.loop-i.invariant.distance, pow_more c.loop-i.i);
       width = c.in_ok-shifted-2.ensures.width ∙ c.loop-i.invariant.width;
       spells = λ values v.
-        let f = value_of values c.filling-fill.result in
-        let a = number_against f (values_of values c.args.a.now) in
-        let s = number_against f (values_of values c.loop-i.shifted) in
-        let t = unsigned values (take c.loop-i.i c.args.by.now) in
-        let b = value_of values c.get.result in
-        c.in_ok-shifted-2.ensures.shifted values v
-        ∙ ap (λ d. s / 2 ^ (d * digit b)) c.loop-i.invariant.distance
-        ∙ shift_down_more a s t (2 ^ c.loop-i.i) b (c.loop-i.invariant.spells values (IsValuation-Grows c.in_ok-shifted-2.ensures.grows v))
-        ∙ ap (λ n. a / 2 ^ n) (sym (unsigned-more values c.args.by.now c.loop-i.i in_by ∙ ap (λ l. t + 2 ^ c.loop-i.i * digit (value_of values l)) (sym c.get.ensures)));
+          let f = value_of values c.filling-fill.result in
+          let a = number_against f (values_of values c.args.a.now) in
+          let s = number_against f (values_of values c.loop-i.shifted) in
+          let t = unsigned values (take c.loop-i.i c.args.by.now) in
+          let b = value_of values c.get.result in
+          c.in_ok-shifted-2.ensures.shifted values v
+          ∙ ap (λ d. s / 2 ^ (d * digit b)) c.loop-i.invariant.distance
+          ∙ shift_down_more a s t (2 ^ c.loop-i.i) b (c.loop-i.invariant.spells values (IsValuation-Grows c.in_ok-shifted-2.ensures.grows v))
+          ∙ ap (λ n. a / 2 ^ n) (sym (unsigned-more values c.args.by.now c.loop-i.i in_by ∙ ap (λ l. t + 2 ^ c.loop-i.i * digit (value_of values l)) (sym c.get.ensures)));
       belongs = c.in_ok-shifted-2.ensures.belongs;
       grows = grind (arith, circuits);
     }
@@ -46,11 +46,11 @@ returns-clause-number c values v small =
     let done : (length c.args.by.now ≤ c.loop-i.i) ⊎ (length c.args.a.now < 2 ^ c.loop-i.i) = grind (arith, c.loop-i.invariant.distance) in
     let a = number_against (value_of values c.filling-fill.result) (values_of values c.args.a.now) in
     (all_shifted values c.args.a.now c.loop-i.shifted c.filling-fill.result c.args.copy_sign (unsigned values c.args.by.now) c.requires.bits c.loop-i.invariant.width (c.filling-fill.ensures.value c.loop-i.g values v)
-      (c.loop-i.invariant.spells values v ∙ ap (λ n. a / 2 ^ n) (amount_whole values c.args.by.now c.loop-i.i (length c.args.a.now) c.loop-i.invariant.within done small))).0
+    (c.loop-i.invariant.spells values v ∙ ap (λ n. a / 2 ^ n) (amount_whole values c.args.by.now c.loop-i.i (length c.args.a.now) c.loop-i.invariant.within done small))).0
 
 pub returns-clause-signed : goal.returns-clause-signed
 returns-clause-signed c values v small =
     let done : (length c.args.by.now ≤ c.loop-i.i) ⊎ (length c.args.a.now < 2 ^ c.loop-i.i) = grind (arith, c.loop-i.invariant.distance) in
     let a = number_against (value_of values c.filling-fill.result) (values_of values c.args.a.now) in
     (all_shifted values c.args.a.now c.loop-i.shifted c.filling-fill.result c.args.copy_sign (unsigned values c.args.by.now) c.requires.bits c.loop-i.invariant.width (c.filling-fill.ensures.value c.loop-i.g values v)
-      (c.loop-i.invariant.spells values v ∙ ap (λ n. a / 2 ^ n) (amount_whole values c.args.by.now c.loop-i.i (length c.args.a.now) c.loop-i.invariant.within done small))).1
+    (c.loop-i.invariant.spells values v ∙ ap (λ n. a / 2 ^ n) (amount_whole values c.args.by.now c.loop-i.i (length c.args.a.now) c.loop-i.invariant.within done small))).1

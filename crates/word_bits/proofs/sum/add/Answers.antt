@@ -13,4 +13,4 @@ returns-clause-sum c values v =
     let small : unsigned values s < p = subst (λ n. unsigned values s < 2 ^ n) c.in_ok-sum.ensures.width (unsigned-below values s) in
     let zero = ap digit (value_of-constant v).1 in
     remainder_from_carry (unsigned values s) p (digit (value_of values c.in_ok-sum._carry)) (unsigned values c.args.a.now + unsigned values c.args.b.now) small
-      (omega (arith, c.in_ok-sum.ensures.sum values v, zero))
+    (omega (arith, c.in_ok-sum.ensures.sum values v, zero))

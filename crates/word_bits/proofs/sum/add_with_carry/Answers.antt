@@ -12,12 +12,12 @@ loop-i-preserved c =
     record {
       width = grind (arith, common_steps);
       spells = λ values v.
-        let v1 = IsValuation-Grows c.in_ok-through.ensures.grows v in
-        let v0 = IsValuation-Grows c.in_ok-bit.ensures.grows v1 in
-        rw c.in_ok-push.ensures.ok
+          let v1 = IsValuation-Grows c.in_ok-through.ensures.grows v in
+          let v0 = IsValuation-Grows c.in_ok-bit.ensures.grows v1 in
+          rw c.in_ok-push.ensures.ok
           (add_more values c.args.a.now c.args.b.now c.loop-i.sum c.loop-i.i _ c.get-x.result c.get-y.result c.in_ok-bit.bit c.loop-i.through c.in_ok-through.through
-            in_a in_b c.loop-i.invariant.width c.get-x.ensures c.get-y.ensures (c.in_ok-bit.ensures.meaning values v1) (c.in_ok-through.ensures.meaning values v)
-            (c.loop-i.invariant.spells values v0));
+          in_a in_b c.loop-i.invariant.width c.get-x.ensures c.get-y.ensures (c.in_ok-bit.ensures.meaning values v1) (c.in_ok-through.ensures.meaning values v)
+          (c.loop-i.invariant.spells values v0));
       belongs = grind (arith, belongs, c.in_ok-push.ensures.ok);
       carry_belongs = c.in_ok-through.ensures.belongs;
       grows = grind (arith, circuits);

@@ -16,4 +16,4 @@ returns-clause-negation c values v =
     let none : unsigned values c.in_ok-zero.zero ≡ 0 = ap (unsigned values) c.in_ok-zero.ensures ∙ unsigned-zeros v _ in
     let all = subst (λ n. unsigned values s + 2 ^ n * digit (value_of values c.in_ok-negation._carry) + unsigned values a ≡ unsigned values c.in_ok-zero.zero + 2 ^ n) width (c.in_ok-negation.ensures.difference values v) in
     remainder_from_carry (unsigned values s) p (digit (value_of values c.in_ok-negation._carry)) (p - unsigned values a) small
-      (omega (arith, all, none, unsigned-below values a))
+    (omega (arith, all, none, unsigned-below values a))

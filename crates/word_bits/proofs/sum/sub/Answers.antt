@@ -13,4 +13,4 @@ returns-clause-difference c values v =
     let small : unsigned values s < p = subst (λ n. unsigned values s < 2 ^ n) c.in_ok-difference.ensures.width (unsigned-below values s) in
     let b_small : b < p = subst (λ n. b < 2 ^ n) (sym c.requires.widths) (unsigned-below values c.args.b.now) in
     remainder_from_carry (unsigned values s) p (digit (value_of values c.in_ok-difference._carry)) (unsigned values c.args.a.now + (p - b)) small
-      (omega (arith, c.in_ok-difference.ensures.difference values v, b_small))
+    (omega (arith, c.in_ok-difference.ensures.difference values v, b_small))

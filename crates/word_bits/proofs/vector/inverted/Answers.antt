@@ -11,7 +11,7 @@ loop-i-preserved c =
     record {
       width = grind (arith, common_steps);
       number = λ values. rw c.in_ok-push.ensures.ok
-        (inverted_more values c.args.a.now c.loop-i.out c.loop-i.i c.lit_not-bit.result h c.loop-i.invariant.width
+          (inverted_more values c.args.a.now c.loop-i.out c.loop-i.i c.lit_not-bit.result h c.loop-i.invariant.width
           (c.lit_not-bit.ensures.value values ∙ ap (λ l. not (value_of values l)) c.get.ensures) (c.loop-i.invariant.number values));
       within = grind (arith, belongs, c.in_ok-push.ensures.ok);
     }
