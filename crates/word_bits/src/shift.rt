@@ -1,6 +1,6 @@
 #![tactic(auto, using(crate::proofs::Circuits::circuits, crate::proofs::Circuits::belongs))]
 
-ghost use Rattle.std.specs.Prelude.{◌≡◌, ℕ, ◌+◌, ◌*◌, ◌%◌, ◌^◌, ◌<◌, ◌≤◌, Bool, List, length, IfOk, ◌/◌, true, false, pos};
+ghost use Rattle.std.specs.Prelude.{◌≡◌, ◌*◌, ◌%◌, ◌^◌, ◌<◌, ◌≤◌, Bool, List, length, IfOk, ◌/◌, true, false, pos};
 ghost use Rattle.std.specs.Int.{int_div_euclid};
 ghost use Rattle.gates.specs.Nodes.{Grows, Belongs, AllBelong};
 ghost use Rattle.gates.specs.Valuation.{value_of, values_of, IsValuation};

@@ -1,7 +1,6 @@
 #![tactic(auto, using(crate::proofs::Circuits::circuits, crate::proofs::Circuits::belongs))]
 
-ghost use Rattle.std.specs.Prelude.{◌≡◌, ℕ, ◌+◌, ◌*◌, ◌-◌, ◌%◌, ◌^◌, ◌<◌, ◌≤◌, Bool, not, List, length, map, IfOk};
-ghost use Rattle.gates.specs.Literal.{negated};
+ghost use Rattle.std.specs.Prelude.{◌≡◌, ◌+◌, ◌*◌, ◌-◌, ◌%◌, ◌^◌, ◌<◌, Bool, List, length, IfOk};
 ghost use Rattle.gates.specs.Nodes.{Grows, Belongs, AllBelong};
 ghost use Rattle.gates.specs.Valuation.{value_of, IsValuation};
 ghost use Rattle.word_bits.specs.Number.{digit};
@@ -9,7 +8,7 @@ ghost use Rattle.word_bits.specs.Words.{unsigned};
 
 use crate::bit::{carry_of, sum_of};
 use crate::vector::{inverted, repeated};
-use gates::{Gates, Lit, Lits, lit_not};
+use gates::{Gates, Lit, Lits};
 use std::alloc::{AllocError, Global};
 
 /// The sum of two vectors and a carry, with the carry out of it: a ripple of full adders, seven gates a bit.

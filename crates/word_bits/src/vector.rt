@@ -1,7 +1,7 @@
 #![tactic(auto, using(crate::proofs::Circuits::circuits, crate::proofs::Circuits::belongs))]
 
-ghost use Rattle.std.specs.Prelude.{◌≡◌, ℕ, ◌+◌, ◌*◌, ◌-◌, ◌/◌, ◌%◌, ◌^◌, ◌<◌, ◌≤◌, max, Bool, not, true, false, ◌&&◌, List, [], ◌∷◌, ◌++◌, length, take, drop, replicate, slice_index_or, IfOk, if◌then◌else◌};
-ghost use Rattle.gates.specs.Literal.{Literal, span, always};
+ghost use Rattle.std.specs.Prelude.{◌≡◌, ◌+◌, ◌*◌, ◌-◌, ◌/◌, ◌%◌, ◌^◌, ◌<◌, ◌≤◌, max, Bool, true, false, ◌&&◌, List, ◌++◌, length, take, drop, replicate, IfOk};
+ghost use Rattle.gates.specs.Literal.{span};
 ghost use Rattle.gates.specs.Valuation.{value_of, values_of, IsValuation};
 ghost use Rattle.gates.specs.declared.node.Node.{Node};
 ghost use Rattle.word_bits.specs.Number.{top};
