@@ -187,7 +187,3 @@ chosen_more values a b out i c x y bit in_a in_b at_a at_b is before =
     by : (c : Bool) → cond c (values_of values (take i a)) (values_of values (take i b)) ++ cond c (value_of values x) (value_of values y) ∷ [] ≡ cond c (values_of values (take (i + 1) a)) (values_of values (take (i + 1) b))
     by true = sym (values_of-more values a i x in_a at_a)
     by false = sym (values_of-more values b i y in_b at_b)
-
-pub number-chosen : (c : Bool) (xs ys zs : List Bool) → zs ≡ cond c xs ys → number zs ≡ cond c (number xs) (number ys)
-number-chosen true xs ys zs e = ap number e
-number-chosen false xs ys zs e = ap number e
