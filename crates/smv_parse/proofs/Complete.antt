@@ -1,170 +1,322 @@
--- What is spelled so is read.
-use Rattle.std.proofs.Common.{◌≡◌, ◌<◌, ◌≤◌, ◌+◌, ◌-◌, ◌⊎◌, ℕ, suc, max, true, ltb, List, [], ◌∷◌, ◌++◌, Option, Some, None, refl, sym, ◌∙◌, ap, subst, append_assoc, inl, inr, arith, rules, tests}
-use Rattle.std.proofs.lemmas.Bool.{eq-eqb}
+-- What is spelled so is read, or it is too deep.
+use Rattle.std.proofs.Common.{◌≡◌, ◌<◌, ◌≤◌, ◌+◌, ◌-◌, ◌⊎◌, ℕ, suc, max, Bool, true, false, cond, ltb, List, [], ◌∷◌, ◌++◌, length, length-append, Some, None, Result, Ok, Err, refl, sym, ◌∙◌, ap, subst, append_assoc, inl, inr, arith}
+use Rattle.std.proofs.lemmas.Bool.{eq-eqb, ltb-false, ltb-true}
 use Rattle.smv_tree.specs.declared.place.Place.{Place}
 use Rattle.smv_tree.specs.Trees.{Tree}
 use Rattle.smv_parse.specs.declared.mark.Mark.{Mark}
-use Rattle.smv_parse.specs.declared.mark.Mark.TheVariants as marks
 use Rattle.smv_parse.specs.declared.token.Token.{Token}
-use Rattle.smv_parse.specs.declared.token.Lexeme.{Lexeme}
-use Rattle.smv_parse.specs.declared.token.Lexeme.TheVariants as lexeme
-use Rattle.smv_parse.specs.Answers.{◌>>=◌}
-use Rattle.smv_parse.specs.Forms.{Form, gives, mark, path, part, form_of, opening, following, tail_of}
-use Rattle.smv_parse.specs.Grammar.{Spells, SpellsForm, opens, tighter, follows, ends, a_mark, a_name, a_part, marked}
-use Rattle.smv_parse.specs.Reading.{Found, at_least, expect, followed, following_level, level_of, opened, opening_level, read_form, reader, same_mark, whole}
-use Rattle.smv_parse.proofs.Equations.{going, more_follows, nothing_follows, opens_here, opens_tighter}
+use Rattle.smv_parse.specs.Forms.{Closes, Form, closed_below, deepest, mark, part, operand, tail, following, following_level, left_level, level_of, opening, opening_level, own_level, to_right}
+use Rattle.smv_parse.specs.Grammar.{Spells, SpellsForm, opens, tighter, joins, follows, ends, a_mark, a_number, a_part, a_last, marked}
+use Rattle.smv_parse.specs.Reading.{Found, Out, Stop, deep, ◌>>=◌, again, begun, carried, expect, followed, going, joined, opened, read_form, reader, same_mark, whole, within}
+use Rattle.smv_parse.proofs.Equations.{Below, Same, carrying, more_follows, nothing_follows, opens_here, opens_tighter}
+use Rattle.smv_parse.proofs.Tables.{Clear, HasPart, bounds, following_fine, opening_fine}
 
--- no operator of a tighter level follows
-abbrev pub Closes : ℕ → List Token → Type 0
-Closes l rest = following_level rest < l → following_level rest ≡ 0
+-- reading ends where it is too deep, with so many tokens left or more
+pub record Sinks (m : ℕ) (r : Out) : Type 0 where
+  pub left : ℕ
+  pub is : r ≡ Err (deep left)
+  pub far : m ≤ left
 
--- nor one of the level
-abbrev Ends : ℕ → List Token → Type 0
-Ends l rest = following_level rest ≤ l → following_level rest ≡ 0
+pub sinks_then : (m : ℕ) (r : Out) (f : Found → Out) → Sinks m r → Sinks m (r >>= f)
+sinks_then m r f s = record { left = s.left; is = ap (λ q. q >>= f) s.is; far = s.far }
 
--- behind a part of the level comes nothing that would continue it
-abbrev Stops : ℕ → Form → List Token → Type 0
-Stops l (gives x) rest = Ends l rest
-Stops l (mark m f) rest = (p : Place) → following (marked p m) ≡ None
-Stops l (path f) rest = Unit {0}
-Stops l (part k f) rest = ⊥
+pub sinks_less : (m k : ℕ) (r : Out) → m ≤ k → Sinks k r → Sinks m r
+sinks_less m k r h s = record { left = s.left; is = s.is; far = omega (arith, h, s.far) }
 
-abbrev Clear : Form → List Token → Type 0
-Clear (gives x) rest = Unit {0}
-Clear (mark m f) rest = Clear f rest
-Clear (path f) rest = (p : Place) (n : List ℕ) → Clear (f p n) rest
-Clear (part l f) rest = (a : Tree) → Clear (f a) rest × Stops l (f a) rest
+pub sinks_as : (m : ℕ) (r q : Out) → r ≡ q → Sinks m q → Sinks m r
+sinks_as m r q e s = record { left = s.left; is = e ∙ s.is; far = s.far }
 
--- the levels of the operators
-levels_at : (p : Place) (m : Mark) → (following_level (marked p m ∷ []) ≡ 0) ⊎ (following_level (marked p m ∷ []) ≡ 10)
-levels_at p marks.Equals = inr refl
-levels_at p m = inl refl
+pub longer : (us rest : List Token) → length rest ≤ length (us ++ rest)
+longer us rest = let e = length-append us rest in omega (arith, e)
 
-levels_of : (p : Place) (x : Lexeme) (ts : List Token) → (following_level (record { place = p; lexeme = x } ∷ ts) ≡ 0) ⊎ (following_level (record { place = p; lexeme = x } ∷ ts) ≡ 10)
-levels_of p (lexeme.Name n) ts = inl refl
-levels_of p (lexeme.Mark m) ts = levels_at p m
+-- there is no room for an expression of such a depth
+abbrev pub TooBig : ℕ → ℕ → Type 0
+TooBig d room = d ≤ deepest → d ≤ room → ⊥
 
-levels : (ts : List Token) → (following_level ts ≡ 0) ⊎ (following_level ts ≡ 10)
-levels [] = inl refl
-levels (t ∷ ts) = levels_of t.place t.lexeme ts
+-- it is read, unless it is too deep
+abbrev pub Passed : ℕ → ℕ → List Token → Out → Out → Type 0
+Passed d room rest r s = ((d ≤ deepest) × (r ≡ s)) ⊎ (TooBig d room × Sinks (length rest) r)
 
-closes_two : (rest : List Token) → Closes 2 rest → Ends 2 rest
-closes_two rest c h = elim (levels rest) [ inl e ↦ e | inr e ↦ absurd (omega arith) ]
-
-some_one : {A : Type 0} (a b : A) → Some a ≡ Some b → a ≡ b
-some_one a b e = cc
-
--- every form of the table is clear where its level is closed
-IsClear : List Token → ℕ × Form → Type 0
-IsClear rest o = Closes o.0 rest → Clear o.1 rest
-
-opening_at : (p : Place) (x : Lexeme) (o : ℕ × Form) (rest : List Token) → form_of p x ≡ Some o → (1 ≤ o.0) × IsClear rest o
-unfolding IsClear
-opening_at p (lexeme.Name n) o rest e = let P : ℕ × Form → Type 0 = λ o. (1 ≤ o.0) × (Closes o.0 rest → Clear o.1 rest) in subst P (some_one _ o e) (omega arith, λ c. tt)
-opening_at p (lexeme.Mark marks.True) o rest e = let P : ℕ × Form → Type 0 = λ o. (1 ≤ o.0) × (Closes o.0 rest → Clear o.1 rest) in subst P (some_one _ o e) (omega arith, λ c. tt)
-opening_at p (lexeme.Mark marks.False) o rest e = let P : ℕ × Form → Type 0 = λ o. (1 ≤ o.0) × (Closes o.0 rest → Clear o.1 rest) in subst P (some_one _ o e) (omega arith, λ c. tt)
-opening_at p (lexeme.Mark marks.Next) o rest e = let P : ℕ × Form → Type 0 = λ o. (1 ≤ o.0) × (Closes o.0 rest → Clear o.1 rest) in subst P (some_one _ o e) (omega arith, λ c q n. tt)
-opening_at p (lexeme.Mark marks.Bang) o rest e = let P : ℕ × Form → Type 0 = λ o. (1 ≤ o.0) × (Closes o.0 rest → Clear o.1 rest) in subst P (some_one _ o e) (omega arith, λ c a. (tt, closes_two rest c))
-opening_at p (lexeme.Mark m) o rest e = absurd (cc)
-
-opening_clear : (t : Token) (l : ℕ) (f : Form) (rest : List Token) → opening t ≡ Some (l, f) → (1 ≤ l) × (Closes l rest → Clear f rest)
-unfolding IsClear
-opening_clear t l f rest e = opening_at t.place t.lexeme (l, f) rest e
-
-tail_at : (p : Place) (x : Lexeme) (o : ℕ × (Tree → Form)) (rest : List Token) → tail_of p x ≡ Some o → (1 ≤ o.0) × (Closes o.0 rest → (a : Tree) → Clear (o.1 a) rest)
-tail_at p (lexeme.Name n) o rest e = absurd (cc)
-tail_at p (lexeme.Mark marks.Equals) o rest e = let P : ℕ × (Tree → Form) → Type 0 = λ o. (1 ≤ o.0) × (Closes o.0 rest → (a : Tree) → Clear (o.1 a) rest) in subst P (some_one _ o e) (omega arith, λ c a b. (tt, λ h. c (omega arith)))
-tail_at p (lexeme.Mark m) o rest e = absurd (cc)
-
-following_clear : (t : Token) (l : ℕ) (f : Tree → Form) (rest : List Token) → following t ≡ Some (l, f) → (1 ≤ l) × (Closes l rest → (a : Tree) → Clear (f a) rest)
-following_clear t l f rest e = tail_at t.place t.lexeme (l, f) rest e
-
-stops : (l : ℕ) (rest : List Token) {f : Form} {us : List Token} {x : Tree} {e : ℕ} → SpellsForm f us x e → Stops l f rest → Ends l (us ++ rest)
-stops l rest (ends x) s = s
-stops l rest (a_mark p m f ts x d h) s = λ k. ap (λ (o : Option (ℕ × (Tree → Form))). level_of o) (s p)
-stops l rest (a_name p n f ts x d h) s = λ k. refl
-stops l rest (a_part k f ts us a x d e g h) s = absurd s
+abbrev FormPassed : ℕ → ℕ → List Token → Out → Out → Type 0
+FormPassed d room rest r s = (r ≡ s) ⊎ (TooBig d room × Sinks (length rest) r)
 
 -- an expression is not empty, and begins with what its level has
-record Begins (l : ℕ) (ts : List Token) (d : ℕ) : Type 0 where
-  some : 1 ≤ opening_level ts
-  within : opening_level ts ≤ l
-  deep : 1 ≤ d
+pub record Begins (l : ℕ) (ts : List Token) (d : ℕ) : Type 0 where
+  pub some : 1 ≤ opening_level ts
+  pub within : opening_level ts ≤ l
+  pub deep : 1 ≤ d
 
-begins : (rest : List Token) {l : ℕ} {us : List Token} {x : Tree} {d : ℕ} → Spells l us x d → Begins l (us ++ rest) d
-begins rest (opens t l f ts x d eo h) =
-    let c = opening_clear t l f rest eo in
-    let e : opening_level (t ∷ (ts ++ rest)) ≡ l = ap (λ (o : Option (ℕ × Form)). level_of o) eo in
-    record { some = omega (arith, c.0); within = omega arith; deep = omega arith }
+left_bounds : (l : ℕ) → left_level l ≤ l
+left_bounds l = by_side (to_right l) where
+  by_side : (b : Bool) → cond b (l - 1) l ≤ l
+  by_side true = omega arith
+  by_side false = omega arith
+
+pub begins : (rest : List Token) {l : ℕ} {us : List Token} {x : Tree} {d : ℕ} → Spells l us x d → Begins l (us ++ rest) d
+begins rest (opens t l n f ts x d eo h) =
+    let c = opening_fine t (l, n, f) rest eo in
+    let e : opening_level (t ∷ (ts ++ rest)) ≡ l = ap own_level eo in
+    record { some = omega (arith, c.some); within = omega arith; deep = omega arith }
 begins rest (tighter l ts x d h) = let b = begins rest h in record { some = b.some; within = omega (arith, b.within); deep = b.deep }
-begins rest (follows t l f ts us a x d e eo g h) =
+begins rest (joins t l f ts us a b d e eo g h) =
     let b = begins (t ∷ (us ++ rest)) g in
+    let k = left_bounds l in
     let P : List Token → Type 0 = λ vs. Begins l vs (suc (max d e)) in
-    subst P (sym (append_assoc ts (t ∷ us) rest)) (record { some = b.some; within = b.within; deep = omega arith })
+    subst P (sym (append_assoc ts (t ∷ us) rest)) (record { some = b.some; within = omega (arith, b.within, k); deep = omega arith })
+begins rest (follows t l n f ts us a x d e eo g h) =
+    let b = begins (t ∷ (us ++ rest)) g in
+    let k = left_bounds l in
+    let P : List Token → Type 0 = λ vs. Begins l vs (suc e) in
+    subst P (sym (append_assoc ts (t ∷ us) rest)) (record { some = b.some; within = omega (arith, b.within, k); deep = omega arith })
 
-opened_known : (below : ℕ → List Token → Option Found) (room : ℕ) (t : Token) (l : ℕ) (f : Form) (ts : List Token) → opening t ≡ Some (l, f) → opened below room (t ∷ ts) ≡ whole room (read_form below f ts)
+-- a form is as deep as the parts before, and deeper than nothing where it has a part
+form_deep : {f : Form} {d : ℕ} {us : List Token} {x : Tree} {e : ℕ} → SpellsForm f d us x e → d ≤ e
+form_deep (ends x d) = omega arith
+form_deep (a_mark p m f d ts x e h) = form_deep h
+form_deep (a_number p n f d ts x e h) = let k = form_deep h in omega (arith, k)
+form_deep (a_part l p m f d ts us a x b e g h) = let k = form_deep h in omega (arith, k)
+form_deep (a_last l f d ts a b g) = omega arith
+
+has_part : {f : Form} {d : ℕ} {us : List Token} {x : Tree} {e : ℕ} → HasPart f → SpellsForm f d us x e → 1 ≤ e
+has_part c (ends x d) = absurd c
+has_part c (a_mark p m f d ts x e h) = has_part c h
+has_part c (a_number p n f d ts x e h) = let k = form_deep h in omega (arith, k)
+has_part c (a_part l p m f d ts us a x b e g h) = let k = form_deep h in let b = begins [] g in omega (arith, k, b.deep)
+has_part c (a_last l f d ts a b g) = let b = begins [] g in omega (arith, b.deep)
+
+pub opened_known : (below : Below) (room : ℕ) (t : Token) (o : ℕ × ℕ × Form) (ts : List Token) → opening t ≡ Some o → opened below room (t ∷ ts) ≡ (within o.1 room ts (read_form below o.2 0 ts) >>= whole)
 unfolding opened
-opened_known below room t l f ts e = ap (λ (o : Option (ℕ × Form)). o >>= (λ o. whole room (read_form below o.1 ts))) e
+opened_known below room t o ts e = ap (λ o. begun below room o ts >>= whole) e
 
-followed_known : (below : ℕ → List Token → Option Found) (room : ℕ) (a : Tree) (d : ℕ) (t : Token) (l : ℕ) (f : Tree → Form) (ts : List Token) → following t ≡ Some (l, f) → followed below room a d (t ∷ ts) ≡ whole room (at_least d (read_form below (f a) ts))
+pub followed_operand : (below : Below) (same : Same) (room : ℕ) (a : Tree) (d : ℕ) (t : Token) (l : ℕ) (f : Tree → Tree → Tree) (ts : List Token) → following t ≡ Some (l, operand f) → followed below same room a d (t ∷ ts) ≡ (same ts >>= joined f a d >>= whole)
 unfolding followed
-followed_known below room a d t l f ts e = ap (λ (o : Option (ℕ × (Tree → Form))). o >>= (λ o. whole room (at_least d (read_form below (o.1 a) ts)))) e
+followed_operand below same room a d t l f ts e = ap (λ o. carried below same room a d o ts >>= whole) e
 
-lt_ltb : (a b : ℕ) → a < b → ltb a b ≡ true
-lt_ltb a b h = search (rules, tests)
+pub followed_tail : (below : Below) (same : Same) (room : ℕ) (a : Tree) (d : ℕ) (t : Token) (l n : ℕ) (f : Tree → Form) (ts : List Token) → following t ≡ Some (l, tail n f) → followed below same room a d (t ∷ ts) ≡ (within n room ts (read_form below (f a) d ts) >>= whole)
+unfolding followed
+followed_tail below same room a d t l n f ts e = ap (λ o. carried below same room a d o ts >>= whole) e
 
-whole_is : (room d : ℕ) (x : Tree) (rest : List Token) → d < room → whole room (Some (record { tree = x; depth = d; rest = rest })) ≡ Some (record { tree = x; depth = suc d; rest = rest })
-whole_is room d x rest h = let s : d + 1 ≡ suc d = omega arith in rw (lt_ltb d room h, s) refl
-
-expect_same : (m : Mark) (p : Place) (ts : List Token) → expect m (marked p m ∷ ts) ≡ Some (p, ts)
+pub expect_same : (m : Mark) (p : Place) (ts : List Token) → expect m (marked p m ∷ ts) ≡ Ok ts
 unfolding same_mark
 expect_same m p ts = rw (eq-eqb _ _ refl) refl
+
+-- a whole is read where its parts are, and it is not too deep
+whole_passed : (room e : ℕ) (x : Tree) (rest : List Token) (r : Out) → FormPassed (suc e) room rest r (Ok (record { tree = x; depth = e; rest = rest })) → Passed (suc e) room rest (r >>= whole) (Ok (record { tree = x; depth = suc e; rest = rest }))
+whole_passed room e x rest r (inr h) = inr (h.0, sinks_then (length rest) r whole h.1)
+whole_passed room e x rest r (inl h) = by_test (ltb e deepest) refl where
+  s : e + 1 ≡ suc e
+  s = omega arith
+
+  by_test : (b : Bool) → ltb e deepest ≡ b → Passed (suc e) room rest (r >>= whole) (Ok (record { tree = x; depth = suc e; rest = rest }))
+  by_test true k = let lt = ltb-true e deepest k in inl (omega (arith, lt), ap (λ q. q >>= whole) h ∙ ap (λ b. cond b (Ok (record { tree = x; depth = e + 1; rest = rest })) (Err (deep (length rest)))) k ∙ ap (λ n. Ok (record { tree = x; depth = n; rest = rest })) s)
+  by_test false k = let ge = ltb-false e deepest k in inr (λ small room. omega (arith, ge), record { left = length rest; is = ap (λ q. q >>= whole) h ∙ ap (λ b. cond b (Ok (record { tree = x; depth = e + 1; rest = rest })) (Err (deep (length rest)))) k; far = omega arith })
+
+-- a token that opens nestings for which there is room or not
+within_passed : (n room e : ℕ) (us rest : List Token) (r s : Out) → (n ≡ 0) ⊎ ((1 ≤ e) × (n ≡ 1)) → FormPassed e (room - 1) rest r s → FormPassed (suc e) room rest (within n room (us ++ rest) r) s
+within_passed n room e us rest r s small h = by_test (ltb n room) refl where
+  over : room ≤ n → suc e ≤ room → ⊥
+  over k j = elim small [ inl z ↦ omega (arith, z) | inr o ↦ omega (arith, o.0, o.1) ]
+
+  inside : FormPassed e (room - 1) rest r s → FormPassed (suc e) room rest r s
+  inside (inl h) = inl h
+  inside (inr h) = let big = h.0 in inr (λ d k. big (omega arith) (omega arith), h.1)
+
+  by_test : (b : Bool) → ltb n room ≡ b → FormPassed (suc e) room rest (cond b r (Err (deep (length (us ++ rest))))) s
+  by_test true k = inside h
+  by_test false k = let far = longer us rest in inr (λ d j. over (ltb-false n room k) j, record { left = length (us ++ rest); is = refl; far = far })
+
+-- the right side of an operator of a level that groups to the right takes all others of it
+again_is : (room l : ℕ) (x : Found) → (to_right l ≡ true → following_level x.rest ≡ l → ⊥) → again (to_right l) (going room l) x ≡ going room l x
+again_is room l x away = by_side (to_right l) refl where
+  by_side : (b : Bool) → to_right l ≡ b → again b (going room l) x ≡ going room l x
+  by_side true e = sym (nothing_follows room l x (away e))
+  by_side false e = refl
+
+right_away : (l : ℕ) (rest : List Token) → 1 ≤ l → Closes l rest → to_right l ≡ true → following_level rest ≡ l → ⊥
+right_away l rest one closed e k =
+    let c : closed_below l ≡ l + 1 = ap (λ b. cond b (l + 1) l) e in
+    let z : following_level rest ≡ 0 = closed (omega arith) in omega arith
+
+-- what stands left of an operator is read up to it
+pub up_to : (room l : ℕ) (ts rest : List Token) (a : Found) (d : ℕ) → 1 ≤ l → Begins (left_level l) ts d → following_level rest ≡ l → a.rest ≡ rest → reader room (left_level l) ts ≡ going room (left_level l) a → reader room l ts ≡ going room l a
+up_to room l ts rest a d hl b el er e = by_side (to_right l) refl where
+  by_side : (c : Bool) → to_right l ≡ c → reader room l ts ≡ going room l a
+  by_side false k =
+      let s : left_level l ≡ l = ap (λ c. cond c (l - 1) l) k in
+      let P : ℕ → Type 0 = λ n. reader room n ts ≡ going room n a in subst P s e
+  by_side true k =
+      let s : left_level l ≡ l - 1 = ap (λ c. cond c (l - 1) l) k in
+      let P : ℕ → Type 0 = λ n. reader room n ts ≡ going room n a in
+      let B : ℕ → Type 0 = λ n. Begins n ts d in
+      let inner = subst P s e in
+      let begin = subst B s b in
+      let fr : following_level a.rest ≡ l = ap following_level er ∙ el in
+      let far : opening_level ts ≡ l → ⊥ = λ h. omega (arith, begin.within) in
+      let away : following_level a.rest ≡ l - 1 → ⊥ = λ h. omega arith in
+      opens_tighter room l ts hl far ∙ ap (λ r. r >>= going room l) (inner ∙ nothing_follows room (l - 1) a away)
+
+-- where that is too deep, the whole is
+pub sinks_up : (room l m : ℕ) (ts : List Token) (d : ℕ) → 1 ≤ l → Begins (left_level l) ts d → Sinks m (reader room (left_level l) ts) → Sinks m (reader room l ts)
+sinks_up room l m ts d hl b h = by_side (to_right l) refl where
+  by_side : (c : Bool) → to_right l ≡ c → Sinks m (reader room l ts)
+  by_side false k =
+      let s : left_level l ≡ l = ap (λ c. cond c (l - 1) l) k in
+      let P : ℕ → Type 0 = λ n. Sinks m (reader room n ts) in subst P s h
+  by_side true k =
+      let s : left_level l ≡ l - 1 = ap (λ c. cond c (l - 1) l) k in
+      let P : ℕ → Type 0 = λ n. Sinks m (reader room n ts) in
+      let B : ℕ → Type 0 = λ n. Begins n ts d in
+      let begin = subst B s b in
+      let far : opening_level ts ≡ l → ⊥ = λ h. omega (arith, begin.within) in
+      sinks_as m (reader room l ts) (reader room (l - 1) ts >>= going room l) (opens_tighter room l ts hl far) (sinks_then m (reader room (l - 1) ts) (going room l) (subst P s h))
+
+pub left_closed : (l n : ℕ) → 1 ≤ l → n ≡ l → n < closed_below (left_level l) → ⊥
+left_closed l n one e h = by_side (to_right l) refl where
+  by_side : (c : Bool) → to_right l ≡ c → ⊥
+  by_side false k =
+      let s : left_level l ≡ l = ap (λ c. cond c (l - 1) l) k in
+      let z : closed_below l ≡ l = ap (λ c. cond c (l + 1) l) k in
+      let y : closed_below (left_level l) ≡ closed_below l = ap closed_below s in omega arith
+  by_side true k =
+      let s : left_level l ≡ l - 1 = ap (λ c. cond c (l - 1) l) k in
+      let y : closed_below (left_level l) ≡ closed_below (l - 1) = ap closed_below s in
+      let m = (bounds (l - 1)).1 in omega (arith, m)
+
+-- what an operator adds to what was read before it
+carried_passed : (room l e : ℕ) (ts vs rest : List Token) (found : Found) (d : ℕ) (x : Tree) → 1 ≤ l → Begins (left_level l) ts d → following_level vs ≡ l → found.rest ≡ vs → length rest ≤ length vs → Closes l rest → (TooBig found.depth room → TooBig (suc e) room) → Passed found.depth room vs (reader room (left_level l) ts) (going room (left_level l) found) → Passed (suc e) room rest (carrying room l found.tree found.depth found.rest) (Ok (record { tree = x; depth = suc e; rest = rest })) → Passed (suc e) room rest (reader room l ts) (going room l (record { tree = x; depth = suc e; rest = rest }))
+carried_passed room l e ts vs rest found d x one b el er len closed big (inr h) right = inr (big h.0, sinks_up room l (length rest) ts d one b (sinks_less (length rest) (length vs) (reader room (left_level l) ts) len h.1))
+carried_passed room l e ts vs rest found d x one b el er len closed big (inl h) right = known right where
+  up : reader room l ts ≡ (carrying room l found.tree found.depth found.rest >>= again (to_right l) (going room l))
+  up = up_to room l ts vs found d one b el er h.1 ∙ more_follows room l found (ap following_level er ∙ el)
+
+  known : Passed (suc e) room rest (carrying room l found.tree found.depth found.rest) (Ok (record { tree = x; depth = suc e; rest = rest })) → Passed (suc e) room rest (reader room l ts) (going room l (record { tree = x; depth = suc e; rest = rest }))
+  known (inl k) = inl (k.0, up ∙ ap (λ r. r >>= again (to_right l) (going room l)) k.1 ∙ again_is room l (record { tree = x; depth = suc e; rest = rest }) (right_away l rest one closed))
+  known (inr k) = inr (k.0, sinks_as (length rest) (reader room l ts) (carrying room l found.tree found.depth found.rest >>= again (to_right l) (going room l)) up (sinks_then (length rest) (carrying room l found.tree found.depth found.rest) (again (to_right l) (going room l)) k.1))
+
+operand_passed : (room l d : ℕ) (f : Tree → Tree → Tree) (a b : Tree) (c : ℕ) (rest : List Token) (r : Out) → (following_level rest ≡ l - 1 → ⊥) → Passed c room rest r (going room (l - 1) (record { tree = b; depth = c; rest = rest })) → FormPassed (suc (max d c)) room rest (r >>= joined f a d) (Ok (record { tree = f a b; depth = max d c; rest = rest }))
+operand_passed room l d f a b c rest r away (inl h) = inl (ap (λ q. q >>= joined f a d) (h.1 ∙ nothing_follows room (l - 1) (record { tree = b; depth = c; rest = rest }) away))
+operand_passed room l d f a b c rest r away (inr h) = let big = h.0 in inr (λ s k. big (omega arith) (omega arith), sinks_then (length rest) r (joined f a d) h.1)
+
+part_passed : (room l e b d : ℕ) (m : Mark) (f : Tree → Form) (p : Place) (a : Tree) (us rest : List Token) (r s : Out) → max d b ≤ e → (0 ≡ l → ⊥) → following (marked p m) ≡ None → Passed b room (marked p m ∷ (us ++ rest)) r (going room l (record { tree = a; depth = b; rest = marked p m ∷ (us ++ rest) })) → FormPassed e room rest (read_form (reader room) (f a) (max d b) (us ++ rest)) s → FormPassed e room rest (r >>= (λ a. expect m a.rest >>= (λ us. read_form (reader room) (f a.tree) (max d a.depth) us))) s
+part_passed room l e b d m f p a us rest r s large some none (inr h) k = let big = h.0 in let far = longer us rest in inr (λ s k. big (omega (arith, large)) (omega (arith, large)), sinks_then (length rest) r (λ a. expect m a.rest >>= (λ us. read_form (reader room) (f a.tree) (max d a.depth) us)) (sinks_less (length rest) (length (marked p m ∷ (us ++ rest))) r (omega (arith, far)) h.1))
+part_passed room l e b d m f p a us rest r s large some none (inl h) k = known k where
+  zero_follows : following_level (marked p m ∷ (us ++ rest)) ≡ 0
+  zero_follows = ap level_of none
+
+  read : (r >>= (λ a. expect m a.rest >>= (λ us. read_form (reader room) (f a.tree) (max d a.depth) us))) ≡ read_form (reader room) (f a) (max d b) (us ++ rest)
+  read = ap (λ (q : Out). q >>= (λ a. expect m a.rest >>= (λ us. read_form (reader room) (f a.tree) (max d a.depth) us))) (h.1 ∙ nothing_follows room l (record { tree = a; depth = b; rest = marked p m ∷ (us ++ rest) }) (λ e. some (sym zero_follows ∙ e)))
+      ∙ ap (λ (q : Result (List Token) Stop). q >>= (λ us. read_form (reader room) (f a) (max d b) us)) (expect_same m p (us ++ rest))
+
+  known : FormPassed e room rest (read_form (reader room) (f a) (max d b) (us ++ rest)) s → FormPassed e room rest (r >>= (λ a. expect m a.rest >>= (λ us. read_form (reader room) (f a.tree) (max d a.depth) us))) s
+  known (inl k) = inl (read ∙ k)
+  known (inr k) = inr (k.0, sinks_as (length rest) (r >>= (λ a. expect m a.rest >>= (λ us. read_form (reader room) (f a.tree) (max d a.depth) us))) (read_form (reader room) (f a) (max d b) (us ++ rest)) read k.1)
+
+last_passed : (room l d b : ℕ) (f : Tree → Tree) (a : Tree) (rest : List Token) (r : Out) → (following_level rest ≡ l → ⊥) → Passed b room rest r (going room l (record { tree = a; depth = b; rest = rest })) → FormPassed (max d b) room rest (r >>= (λ a. Ok (record { tree = f a.tree; depth = max d a.depth; rest = a.rest }))) (Ok (record { tree = f a; depth = max d b; rest = rest }))
+last_passed room l d b f a rest r away (inl h) = inl (ap (λ (q : Out). q >>= (λ a. Ok (record { tree = f a.tree; depth = max d a.depth; rest = a.rest }))) (h.1 ∙ nothing_follows room l (record { tree = a; depth = b; rest = rest }) away))
+last_passed room l d b f a rest r away (inr h) = let big = h.0 in inr (λ s k. big (omega arith) (omega arith), sinks_then (length rest) r (λ a. Ok (record { tree = f a.tree; depth = max d a.depth; rest = a.rest })) h.1)
+
+passed_as : (d room : ℕ) (rest : List Token) (r q s : Out) → r ≡ q → Passed d room rest q s → Passed d room rest r s
+passed_as d room rest r q s e (inl h) = inl (h.0, e ∙ h.1)
+passed_as d room rest r q s e (inr h) = inr (h.0, sinks_as (length rest) r q e h.1)
+
+passed_then : (d room : ℕ) (rest : List Token) (r : Out) (x : Found) (f : Found → Out) → Passed d room rest r (Ok x) → Passed d room rest (r >>= f) (f x)
+passed_then d room rest r x f (inl h) = inl (h.0, ap (λ q. q >>= f) h.1)
+passed_then d room rest r x f (inr h) = inr (h.0, sinks_then (length rest) r f h.1)
+
+passed_ok : (d room : ℕ) (rest : List Token) (r s q : Out) → s ≡ q → Passed d room rest r s → Passed d room rest r q
+passed_ok d room rest r s q e (inl h) = inl (h.0, h.1 ∙ e)
+passed_ok d room rest r s q e (inr h) = inr h
+
+form_as : (d room : ℕ) (rest : List Token) (r q s : Out) → r ≡ q → FormPassed d room rest q s → FormPassed d room rest r s
+form_as d room rest r q s e (inl h) = inl (e ∙ h)
+form_as d room rest r q s e (inr h) = inr (h.0, sinks_as (length rest) r q e h.1)
+
+nested : (n e : ℕ) {f : Form} {d : ℕ} {us : List Token} {x : Tree} → (n ≡ 0) ⊎ (HasPart f × (n ≡ 1)) → SpellsForm f d us x e → (n ≡ 0) ⊎ ((1 ≤ e) × (n ≡ 1))
+nested n e (inl h) s = inl h
+nested n e (inr h) s = inr (has_part h.0 s, h.1)
 
 -- what follows an expression whose level is closed
 mutual
   unfolding read_form
 
-  pub complete : (room : ℕ) {l : ℕ} {us : List Token} {x : Tree} {d : ℕ} → Spells l us x d → d ≤ room → (rest : List Token) → Closes l rest → reader room l (us ++ rest) ≡ going room l (record { tree = x; depth = d; rest = rest })
-  complete room (opens t l f ts x d eo h) small rest closed =
-      let c = opening_clear t l f rest eo in
-      let e : opening_level (t ∷ (ts ++ rest)) ≡ l = ap (λ (o : Option (ℕ × Form)). level_of o) eo in
-      let hr : 1 ≤ room = omega arith in
-      let inner = form_complete (room - 1) h (omega arith) rest (c.1 closed) in
-      opens_here room l (t ∷ (ts ++ rest)) hr c.0 e
-      ∙ ap (λ r. r >>= going room l) (opened_known (reader (room - 1)) room t l f (ts ++ rest) eo ∙ ap (whole room) inner ∙ whole_is room d x rest (omega arith))
-  complete room (tighter l ts x d h) small rest closed =
+  pub complete : (room : ℕ) {l : ℕ} {us : List Token} {x : Tree} {d : ℕ} → Spells l us x d → (rest : List Token) → Closes l rest → Passed d room rest (reader room l (us ++ rest)) (going room l (record { tree = x; depth = d; rest = rest }))
+  complete room (opens t l n f ts x d eo h) rest closed =
+      let c = opening_fine t (l, n, f) rest eo in
+      let e : opening_level (t ∷ (ts ++ rest)) ≡ l = ap own_level eo in
+      let inner = form_complete (room - 1) h rest (c.clear closed) in
+      passed_as (suc d) room rest (reader room l (t ∷ (ts ++ rest))) (opened (reader (room - 1)) room (t ∷ (ts ++ rest)) >>= going room l) (going room l (record { tree = x; depth = suc d; rest = rest }))
+      (opens_here room l (t ∷ (ts ++ rest)) c.some e)
+      (passed_then (suc d) room rest (opened (reader (room - 1)) room (t ∷ (ts ++ rest))) (record { tree = x; depth = suc d; rest = rest }) (going room l)
+      (passed_as (suc d) room rest (opened (reader (room - 1)) room (t ∷ (ts ++ rest))) (within n room (ts ++ rest) (read_form (reader (room - 1)) f 0 (ts ++ rest)) >>= whole) (Ok (record { tree = x; depth = suc d; rest = rest }))
+      (opened_known (reader (room - 1)) room t (l, n, f) (ts ++ rest) eo)
+      (whole_passed room d x rest (within n room (ts ++ rest) (read_form (reader (room - 1)) f 0 (ts ++ rest)))
+      (within_passed n room d ts rest (read_form (reader (room - 1)) f 0 (ts ++ rest)) (Ok (record { tree = x; depth = d; rest = rest })) (nested n d c.nests h) inner))))
+  complete room (tighter l ts x d h) rest closed =
       let b = begins rest h in
-      let hr : 1 ≤ room = omega (arith, b.deep) in
-      let far : opening_level (ts ++ rest) ≡ suc l → ⊥ = λ k. omega (arith, b.within) in
+      let k = bounds l in
+      let m = bounds (suc l) in
+      let far : opening_level (ts ++ rest) ≡ suc l → ⊥ = λ e. omega (arith, b.within) in
       let s : suc l - 1 ≡ l = omega arith in
       let hl : 1 ≤ l = omega (arith, b.some, b.within) in
-      let away : following_level rest ≡ l → ⊥ = λ k. omega (arith, closed (omega arith)) in
-      let inner = complete room h small rest (λ k. closed (omega arith)) in
-      opens_tighter room (suc l) (ts ++ rest) hr (omega arith) far
-      ∙ ap (λ k. reader room k (ts ++ rest) >>= going room (suc l)) s
-      ∙ ap (λ r. r >>= going room (suc l)) (inner ∙ nothing_follows room l (record { tree = x; depth = d; rest = rest }) away)
-  complete room (follows t l f ts us a x d e eo g h) small rest closed =
-      let c = following_clear t l f rest eo in
-      let el : following_level (t ∷ (us ++ rest)) ≡ l = ap (λ (o : Option (ℕ × (Tree → Form))). level_of o) eo in
-      let left = complete room g (omega arith) (t ∷ (us ++ rest)) (λ k. absurd (omega arith)) in
-      let right = form_complete (room - 1) h (omega arith) rest (c.1 closed a) in
-      ap (λ vs. reader room l vs) (append_assoc ts (t ∷ us) rest)
-      ∙ left
-      ∙ more_follows room l (record { tree = a; depth = d; rest = t ∷ (us ++ rest) }) el
-      ∙ ap (λ r. r >>= going room l) (followed_known (reader (room - 1)) room a d t l f (us ++ rest) eo ∙ ap (λ r. whole room (at_least d r)) right ∙ whole_is room (max d e) x rest (omega arith))
+      let away : following_level rest ≡ l → ⊥ = λ e. omega (arith, closed (omega (arith, m))) in
+      let inner = complete room h rest (λ e. closed (omega (arith, k, m))) in
+      passed_as d room rest (reader room (suc l) (ts ++ rest)) (reader room l (ts ++ rest) >>= going room (suc l)) (going room (suc l) (record { tree = x; depth = d; rest = rest }))
+      (opens_tighter room (suc l) (ts ++ rest) (omega arith) far ∙ ap (λ k. reader room k (ts ++ rest) >>= going room (suc l)) s)
+      (passed_then d room rest (reader room l (ts ++ rest)) (record { tree = x; depth = d; rest = rest }) (going room (suc l))
+      (passed_ok d room rest (reader room l (ts ++ rest)) (going room l (record { tree = x; depth = d; rest = rest })) (Ok (record { tree = x; depth = d; rest = rest })) (nothing_follows room l (record { tree = x; depth = d; rest = rest }) away) inner))
+  complete room (joins t l f ts us a b d c eo g h) rest closed =
+      let fine = following_fine t (l, operand f) rest eo in
+      let el : following_level (t ∷ (us ++ rest)) ≡ l = ap level_of eo in
+      let found : Found = record { tree = a; depth = d; rest = t ∷ (us ++ rest) } in
+      let left = complete room g (t ∷ (us ++ rest)) (λ j. absurd (left_closed l (following_level (t ∷ (us ++ rest))) fine.some el j)) in
+      let z : closed_below l ≡ l = ap (λ c. cond c (l + 1) l) fine.fine in
+      let m = (bounds (l - 1)).1 in
+      let bh = begins rest h in
+      let right = complete room h rest (λ j. closed (omega (arith, m, fine.some))) in
+      let away : following_level rest ≡ l - 1 → ⊥ = λ e. omega (arith, closed (omega (arith, fine.some)), bh.some, bh.within) in
+      let far = longer us rest in
+      let P : List Token → Type 0 = λ vs. Passed (suc (max d c)) room rest (reader room l vs) (going room l (record { tree = f a b; depth = suc (max d c); rest = rest })) in
+      subst P (sym (append_assoc ts (t ∷ us) rest))
+      (carried_passed room l (max d c) (ts ++ t ∷ (us ++ rest)) (t ∷ (us ++ rest)) rest found d (f a b) fine.some (begins (t ∷ (us ++ rest)) g) el refl (omega (arith, far)) closed (λ big s k. big (omega arith) (omega arith)) left
+      (passed_as (suc (max d c)) room rest (carrying room l a d (t ∷ (us ++ rest))) (reader room (l - 1) (us ++ rest) >>= joined f a d >>= whole) (Ok (record { tree = f a b; depth = suc (max d c); rest = rest }))
+      (followed_operand (reader (room - 1)) (reader room (l - 1)) room a d t l f (us ++ rest) eo)
+      (whole_passed room (max d c) (f a b) rest (reader room (l - 1) (us ++ rest) >>= joined f a d) (operand_passed room l d f a b c rest (reader room (l - 1) (us ++ rest)) away right))))
+  complete room (follows t l n f ts us a x d e eo g h) rest closed =
+      let after = following_fine t (l, tail n f) rest eo in
+      let fine = after.fine a in
+      let el : following_level (t ∷ (us ++ rest)) ≡ l = ap level_of eo in
+      let found : Found = record { tree = a; depth = d; rest = t ∷ (us ++ rest) } in
+      let left = complete room g (t ∷ (us ++ rest)) (λ j. absurd (left_closed l (following_level (t ∷ (us ++ rest))) after.some el j)) in
+      let right = form_complete (room - 1) h rest (fine.0 closed) in
+      let far = longer us rest in
+      let large = form_deep h in
+      let P : List Token → Type 0 = λ vs. Passed (suc e) room rest (reader room l vs) (going room l (record { tree = x; depth = suc e; rest = rest })) in
+      subst P (sym (append_assoc ts (t ∷ us) rest))
+      (carried_passed room l e (ts ++ t ∷ (us ++ rest)) (t ∷ (us ++ rest)) rest found d x after.some (begins (t ∷ (us ++ rest)) g) el refl (omega (arith, far)) closed (λ big s k. big (omega (arith, large)) (omega (arith, large))) left
+      (passed_as (suc e) room rest (carrying room l a d (t ∷ (us ++ rest))) (within n room (us ++ rest) (read_form (reader (room - 1)) (f a) d (us ++ rest)) >>= whole) (Ok (record { tree = x; depth = suc e; rest = rest }))
+      (followed_tail (reader (room - 1)) (reader room (l - 1)) room a d t l n f (us ++ rest) eo)
+      (whole_passed room e x rest (within n room (us ++ rest) (read_form (reader (room - 1)) (f a) d (us ++ rest)))
+      (within_passed n room e us rest (read_form (reader (room - 1)) (f a) d (us ++ rest)) (Ok (record { tree = x; depth = e; rest = rest })) (nested n e fine.2 h) right))))
 
-  form_complete : (room : ℕ) {f : Form} {us : List Token} {x : Tree} {d : ℕ} → SpellsForm f us x d → d ≤ room → (rest : List Token) → Clear f rest → read_form (reader room) f (us ++ rest) ≡ Some (record { tree = x; depth = d; rest = rest })
-  form_complete room (ends x) small rest clear = refl
-  form_complete room (a_mark p m f ts x d h) small rest clear =
-      ap (λ (r : Option (Place × List Token)). r >>= (λ y. read_form (reader room) f y.1)) (expect_same m p (ts ++ rest))
-      ∙ form_complete room h small rest clear
-  form_complete room (a_name p n f ts x d h) small rest clear =
-      ap (at_least 1) (form_complete room h (omega arith) rest (clear p n))
-  form_complete room (a_part l f ts us a x d e g h) small rest clear =
-      let ended = stops l rest h (clear a).1 in
-      let first = complete room g (omega arith) (us ++ rest) (λ k. ended (omega arith)) in
-      let away : following_level (us ++ rest) ≡ l → ⊥ = λ k. omega (arith, ended (omega arith), begins rest g) in
-      let then = form_complete room h (omega arith) rest (clear a).0 in
-      ap (λ vs. read_form (reader room) (part l f) vs) (append_assoc ts us rest)
-      ∙ ap (λ (r : Option Found). r >>= (λ y. at_least y.depth (read_form (reader room) (f y.tree) y.rest))) (first ∙ nothing_follows room l (record { tree = a; depth = d; rest = us ++ rest }) away)
-      ∙ ap (at_least d) then
+  form_complete : (room : ℕ) {f : Form} {d : ℕ} {us : List Token} {x : Tree} {e : ℕ} → SpellsForm f d us x e → (rest : List Token) → Clear f rest → FormPassed e room rest (read_form (reader room) f d (us ++ rest)) (Ok (record { tree = x; depth = e; rest = rest }))
+  form_complete room (ends x d) rest clear = inl refl
+  form_complete room (a_mark p m f d ts x e h) rest clear =
+      form_as e room rest (read_form (reader room) (mark m f) d (marked p m ∷ (ts ++ rest))) (read_form (reader room) f d (ts ++ rest)) (Ok (record { tree = x; depth = e; rest = rest }))
+      (ap (λ (r : Result (List Token) Stop). r >>= (λ us. read_form (reader room) f d us)) (expect_same m p (ts ++ rest)))
+      (form_complete room h rest clear)
+  form_complete room (a_number p n f d ts x e h) rest clear = form_complete room h rest (clear n)
+  form_complete room (a_part l p m f d ts us a x b e g h) rest clear =
+      let bg = begins [] g in
+      let large = form_deep h in
+      let none = clear.0 p in
+      let some : 0 ≡ l → ⊥ = λ k. omega (arith, bg.some, bg.within) in
+      let zero_follows : following_level (marked p m ∷ (us ++ rest)) ≡ 0 = ap level_of none in
+      let P : List Token → Type 0 = λ vs. FormPassed e room rest (read_form (reader room) (part l m f) d vs) (Ok (record { tree = x; depth = e; rest = rest })) in
+      subst P (sym (append_assoc ts (marked p m ∷ us) rest))
+      (part_passed room l e b d m f p a us rest (reader room l (ts ++ marked p m ∷ (us ++ rest))) (Ok (record { tree = x; depth = e; rest = rest })) large some none
+      (complete room g (marked p m ∷ (us ++ rest)) (λ lt. zero_follows))
+      (form_complete room h rest (clear.1 a)))
+  form_complete room (a_last l f d ts a b g) rest clear =
+      let bg = begins [] g in
+      let m = bounds l in
+      last_passed room l d b f a rest (reader room l (ts ++ rest)) (λ k. omega (arith, clear (omega arith), bg.some, bg.within)) (complete room g rest (λ lt. clear (omega (arith, m))))

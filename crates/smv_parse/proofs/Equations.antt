@@ -1,213 +1,279 @@
 -- What the reading functions compute, one step at a time.
-use Rattle.std.proofs.Common.{◌≡◌, ◌<◌, ◌≤◌, ◌+◌, ◌-◌, ℕ, zero, suc, max, Bool, true, false, cond, ltb, List, [], ◌∷◌, length, drop, take, get_or, Option, Some, None, refl, sym, ◌∙◌, ap, inl, inr, arith}
-use Rattle.std.proofs.lemmas.List.{take_all}
+use Rattle.std.proofs.Common.{◌≡◌, ◌<◌, ◌≤◌, ◌+◌, ◌-◌, ◌==◌, ℕ, zero, suc, max, Bool, true, false, cond, ltb, List, [], ◌∷◌, length, Option, Some, None, Result, Ok, Err, refl, sym, ◌∙◌, ap, subst, inl, inr, arith, rules, tests}
 use Rattle.std.proofs.lemmas.Bool.{eq-eqb, ne_eqb, ltb-true}
 use Rattle.std.proofs.lemmas.Bool.Decides.{eqb_tells}
 use Rattle.smv_tree.specs.declared.place.Place.{Place}
-use Rattle.smv_tree.specs.Trees.{Tree, name, next}
+use Rattle.smv_tree.specs.declared.expr.Op2.{Op2}
+use Rattle.smv_tree.specs.Trees.{Tree, two}
 use Rattle.smv_parse.specs.declared.mark.Mark.{Mark}
 use Rattle.smv_parse.specs.declared.mark.Mark.TheVariants as marks
 use Rattle.smv_parse.specs.declared.token.Token.{Token}
-use Rattle.smv_parse.specs.declared.token.Lexeme.TheVariants as lexeme
-use Rattle.smv_parse.specs.Answers.{◌>>=◌}
-use Rattle.smv_parse.specs.Forms.{Form, following}
-use Rattle.smv_parse.specs.Reading.{Found, at, at_least, expect, finished, followed, followed_by, following_level, more, name_at, next_read, opened, opened_by, opening_level, read_form, reader, whole}
+use Rattle.smv_parse.specs.Forms.{Form, Tail, gives, mark, numeral, part, last, operand, tail, deepest, following, following_level, infix_of, infix_tail, opening, opening_level, tail_by, to_right}
+use Rattle.smv_parse.specs.Reading.{Found, Out, Stop, wrong, deep, ◌>>=◌, added, again, at, begun, carried, expect, followed, going, joined, more, number_at, opened, read_form, reader, whole, within}
 
-abbrev Below : Type 0
-Below = ℕ → List Token → Option Found
+abbrev pub Below : Type 0
+Below = ℕ → List Token → Out
 
-max_zero : (d : ℕ) → max d 0 ≡ d
-max_zero d = omega arith
+abbrev pub Same : Type 0
+Same = List Token → Out
 
--- what a form gives where its last part was read
-after_one : (room : ℕ) (f : Found → Tree) (r : Option Found) → whole room (r >>= (λ a. at_least a.depth (Some (record { tree = f a; depth = 0; rest = a.rest })))) ≡ (r >>= (λ a. finished room (f a) a.depth a.rest))
-after_one room f None = refl
-after_one room f (Some a) = rw (max_zero a.depth) refl
-
-after_two : (room d : ℕ) (f : Found → Tree) (r : Option Found) → whole room (at_least d (r >>= (λ a. at_least a.depth (Some (record { tree = f a; depth = 0; rest = a.rest }))))) ≡ (r >>= (λ a. finished room (f a) (max d a.depth) a.rest))
-after_two room d f None = refl
-after_two room d f (Some a) = rw (max_zero a.depth) refl
-
-pub opened_end : (below : Below) (room : ℕ) → opened below room [] ≡ None
-unfolding opened
-opened_end below room = refl
-
-opened_name_at : (below : Below) (room : ℕ) (p : Place) (n : List ℕ) (ts : List Token) → opened below room (record { place = p; lexeme = lexeme.Name n } ∷ ts) ≡ finished room (name p (n ∷ [])) 0 ts
-unfolding opened read_form
-opened_name_at below room p n ts = refl
-
-pub opened_name : (below : Below) (room : ℕ) (t : Token) (n : List ℕ) (ts : List Token) → t.lexeme ≡ lexeme.Name n → opened below room (t ∷ ts) ≡ finished room (name t.place (n ∷ [])) 0 ts
-opened_name below room t n ts e = ap (λ x. opened below room (record { place = t.place; lexeme = x } ∷ ts)) e ∙ opened_name_at below room t.place n ts
-
-next_form : (below : Below) (room : ℕ) (p : Place) (ts : List Token) → opened below room (record { place = p; lexeme = lexeme.Mark marks.Next } ∷ ts) ≡ next_read room p ts
-unfolding opened read_form
-next_form below room p ts = open_next (expect marks.OpenRound ts) where
-  close_next : (q : Place) (n : List ℕ) (r : Option (Place × List Token)) → whole room (at_least 1 (r >>= (λ c. Some (record { tree = next p (name q (n ∷ [])); depth = 0; rest = c.1 })))) ≡ (r >>= (λ c. finished room (next p (name q (n ∷ []))) 1 c.1))
-  close_next q n None = refl
-  close_next q n (Some c) = refl
-
-  name_next : (r : Option (List ℕ × Place × List Token)) → whole room (r >>= (λ n. at_least 1 (expect marks.CloseRound n.2 >>= (λ c. Some (record { tree = next p (name n.1 (n.0 ∷ [])); depth = 0; rest = c.1 }))))) ≡ (r >>= (λ n. expect marks.CloseRound n.2 >>= (λ c. finished room (next p (name n.1 (n.0 ∷ []))) 1 c.1)))
-  name_next None = refl
-  name_next (Some n) = close_next n.1 n.0 (expect marks.CloseRound n.2)
-
-  open_next : (r : Option (Place × List Token)) → whole room (r >>= (λ b. name_at b.1 >>= (λ n. at_least 1 (expect marks.CloseRound n.2 >>= (λ c. Some (record { tree = next p (name n.1 (n.0 ∷ [])); depth = 0; rest = c.1 })))))) ≡ (r >>= (λ b. name_at b.1 >>= (λ n. expect marks.CloseRound n.2 >>= (λ c. finished room (next p (name n.1 (n.0 ∷ []))) 1 c.1))))
-  open_next None = refl
-  open_next (Some b) = name_next (name_at b.1)
-
-opened_at : (below : Below) (room : ℕ) (p : Place) (m : Mark) (ts : List Token) → opened below room (record { place = p; lexeme = lexeme.Mark m } ∷ ts) ≡ opened_by below room p m ts
-unfolding opened read_form
-opened_at below room p marks.True ts = refl
-opened_at below room p marks.False ts = refl
-opened_at below room p marks.Next ts = next_form below room p ts
-opened_at below room p marks.Bang ts = after_one room _ (below 2 ts)
-opened_at below room p m ts = refl
-
-pub opened_mark : (below : Below) (room : ℕ) (t : Token) (m : Mark) (ts : List Token) → t.lexeme ≡ lexeme.Mark m → opened below room (t ∷ ts) ≡ opened_by below room t.place m ts
-opened_mark below room t m ts e = ap (λ x. opened below room (record { place = t.place; lexeme = x } ∷ ts)) e ∙ opened_at below room t.place m ts
-
-pub followed_end : (below : Below) (room d : ℕ) (a : Tree) → followed below room a d [] ≡ None
-unfolding followed
-followed_end below room d a = refl
-
-followed_name_at : (below : Below) (room d : ℕ) (a : Tree) (p : Place) (n : List ℕ) (ts : List Token) → followed below room a d (record { place = p; lexeme = lexeme.Name n } ∷ ts) ≡ None
-unfolding followed
-followed_name_at below room d a p n ts = refl
-
-pub followed_name : (below : Below) (room d : ℕ) (a : Tree) (t : Token) (n : List ℕ) (ts : List Token) → t.lexeme ≡ lexeme.Name n → followed below room a d (t ∷ ts) ≡ None
-followed_name below room d a t n ts e = ap (λ x. followed below room a d (record { place = t.place; lexeme = x } ∷ ts)) e ∙ followed_name_at below room d a t.place n ts
-
-followed_at : (below : Below) (room d : ℕ) (a : Tree) (p : Place) (m : Mark) (ts : List Token) → followed below room a d (record { place = p; lexeme = lexeme.Mark m } ∷ ts) ≡ followed_by below room a d p m ts
-unfolding followed read_form
-followed_at below room d a p marks.Equals ts = after_two room d _ (below 9 ts)
-followed_at below room d a p m ts = refl
-
-pub followed_mark : (below : Below) (room d : ℕ) (a : Tree) (t : Token) (m : Mark) (ts : List Token) → t.lexeme ≡ lexeme.Mark m → followed below room a d (t ∷ ts) ≡ followed_by below room a d t.place m ts
-followed_mark below room d a t m ts e = ap (λ x. followed below room a d (record { place = t.place; lexeme = x } ∷ ts)) e ∙ followed_at below room d a t.place m ts
-
--- The operators of a level after an expression.
-unfoldable pub going : ℕ → ℕ → Found → Option Found
-going room l x = more (reader (room - 1)) room (suc room) l x
-
--- a whole is deeper than a part, and has room
-pub record Grows (room d : ℕ) (y : Found) : Type 0 where
+-- a whole is deeper than a part, and not too deep
+pub record Grows (d : ℕ) (y : Found) : Type 0 where
   pub deeper : d < y.depth
-  pub small : y.depth ≤ room
+  pub small : y.depth ≤ deepest
 
-guard_some : {X : Type 0} (b : Bool) (x y : X) → cond b (Some x) None ≡ Some y → (b ≡ true) × (x ≡ y)
-guard_some true x y e = (refl, cc)
-guard_some false x y e = absurd (cc)
+guard_ok : {X : Type 0} (b : Bool) (x y : X) (s : Stop) → cond b (Ok x) (Err s) ≡ Ok y → (b ≡ true) × (x ≡ y)
+guard_ok true x y s e = (refl, cc)
+guard_ok false x y s e = absurd (cc)
 
-pub whole_some : (room : ℕ) (x y : Found) → whole room (Some x) ≡ Some y → (x.depth < room) × (record { tree = x.tree; depth = x.depth + 1; rest = x.rest } ≡ y)
-whole_some room x y e = let h = guard_some (ltb x.depth room) (record { tree = x.tree; depth = x.depth + 1; rest = x.rest }) y e in (ltb-true x.depth room h.0, h.1)
+pub whole_ok : (x y : Found) → whole x ≡ Ok y → (x.depth < deepest) × (record { tree = x.tree; depth = x.depth + 1; rest = x.rest } ≡ y)
+whole_ok x y e = let h = guard_ok (ltb x.depth deepest) (record { tree = x.tree; depth = x.depth + 1; rest = x.rest }) y (deep (length x.rest)) e in (ltb-true x.depth deepest h.0, h.1)
 
-whole_grows : (room d : ℕ) (r : Option Found) (y : Found) → whole room (at_least d r) ≡ Some y → Grows room d y
-whole_grows room d None y e = absurd (cc)
-whole_grows room d (Some x) y e =
-    let h = whole_some room (record { tree = x.tree; depth = max d x.depth; rest = x.rest }) y e in
-    let f : max d x.depth + 1 ≡ y.depth = ap (λ (z : Found). z.depth) h.1 in
-    record { deeper = omega arith; small = omega arith }
+pub more_step : (below : Below) (same : Same) (room n l : ℕ) (x : Found) → following_level x.rest ≡ l → more below same room (suc n) l x ≡ (followed below same room x.tree x.depth x.rest >>= again (to_right l) (more below same room n l))
+unfolding more
+more_step below same room n l x e = rw (eq-eqb (following_level x.rest) l e) refl
 
-followed_grows : (below : Below) (room : ℕ) (a : Tree) (d : ℕ) (ts : List Token) (y : Found) → followed below room a d ts ≡ Some y → Grows room d y
+pub more_stop : (below : Below) (same : Same) (room n l : ℕ) (x : Found) → (following_level x.rest ≡ l → ⊥) → more below same room (suc n) l x ≡ Ok x
+unfolding more
+more_stop below same room n l x e = rw (ne_eqb (following_level x.rest) l e) refl
+
+again_same : (b : Bool) (f g : Found → Out) (y : Found) → f y ≡ g y → again b f y ≡ again b g y
+again_same true f g y e = refl
+again_same false f g y e = e
+
+pub bind_same : (r : Out) (f g : Found → Out) → ((x : Found) → f x ≡ g x) → (r >>= f) ≡ (r >>= g)
+bind_same (Err s) f g h = refl
+bind_same (Ok x) f g h = h x
+
+pub bind_bind : (r : Out) (f g : Found → Out) → ((r >>= f) >>= g) ≡ (r >>= (λ x. f x >>= g))
+bind_bind (Err s) f g = refl
+bind_bind (Ok x) f g = refl
+
+pub bind_ok : {A B : Type 0} (r : Result A Stop) (f : A → Result B Stop) (y : B) → (r >>= f) ≡ Ok y → (a : A) × (r ≡ Ok a) × (f a ≡ Ok y)
+bind_ok (Err s) f y e = absurd (cc)
+bind_ok (Ok a) f y e = (a, refl, e)
+
+abbrev pub ok : {X : Type 0} → X → Result X Stop
+ok x = Ok x
+
+pub ok_one : {X : Type 0} (a b : X) → ok a ≡ ok b → a ≡ b
+ok_one a b e = cc
+
+pub not_ltb : (a b : ℕ) → b ≤ a → ltb a b ≡ false
+not_ltb a b h = search (rules, tests)
+
+pub lt_ltb : (a b : ℕ) → a < b → ltb a b ≡ true
+lt_ltb a b h = search (rules, tests)
+
+-- what is read of a form is as deep as the parts before
+form_deep : (below : Below) (f : Form) (d : ℕ) (ts : List Token) (x : Found) → read_form below f d ts ≡ Ok x → d ≤ x.depth
+unfolding read_form
+form_deep below (gives t) d ts x e = let h : d ≡ x.depth = ap (λ (z : Found). z.depth) (ok_one (record { tree = t; depth = d; rest = ts }) x e) in omega arith
+form_deep below (mark m f) d ts x e = let b = bind_ok (expect m ts) (λ us. read_form below f d us) x e in form_deep below f d b.0 x b.2
+form_deep below (numeral f) d ts x e = let b = bind_ok (number_at ts) (λ z. read_form below (f z.0) (max d 1) z.1) x e in let h = form_deep below (f b.0.0) (max d 1) b.0.1 x b.2 in omega arith
+form_deep below (part l m f) d ts x e =
+    let b = bind_ok (below l ts) (λ a. expect m a.rest >>= (λ us. read_form below (f a.tree) (max d a.depth) us)) x e in
+    let c = bind_ok (expect m b.0.rest) (λ us. read_form below (f b.0.tree) (max d b.0.depth) us) x b.2 in
+    let h = form_deep below (f b.0.tree) (max d b.0.depth) c.0 x c.2 in omega arith
+form_deep below (last l f) d ts x e =
+    let b = bind_ok (below l ts) (λ a. Ok (record { tree = f a.tree; depth = max d a.depth; rest = a.rest })) x e in
+    let h : max d b.0.depth ≡ x.depth = ap (λ (z : Found). z.depth) (ok_one (record { tree = f b.0.tree; depth = max d b.0.depth; rest = b.0.rest }) x b.2) in omega arith
+
+within_ok : (n room : ℕ) (ts : List Token) (r : Out) (x : Found) → within n room ts r ≡ Ok x → r ≡ Ok x
+within_ok n room ts r x e = by_test (ltb n room) e where
+  by_test : (b : Bool) → cond b r (Err (deep (length ts))) ≡ Ok x → r ≡ Ok x
+  by_test true e = e
+  by_test false e = absurd (cc)
+
+added_deep : (below : Below) (same : Same) (room : ℕ) (a : Tree) (d : ℕ) (o : Tail) (ts : List Token) (x : Found) → added below same room a d o ts ≡ Ok x → d ≤ x.depth
+added_deep below same room a d (operand f) ts x e =
+    let b = bind_ok (same ts) (joined f a d) x e in
+    let h : max d b.0.depth ≡ x.depth = ap (λ (z : Found). z.depth) (ok_one (record { tree = f a b.0.tree; depth = max d b.0.depth; rest = b.0.rest }) x b.2) in omega arith
+added_deep below same room a d (tail n f) ts x e = form_deep below (f a) d ts x (within_ok n room ts (read_form below (f a) d ts) x e)
+
+followed_grows : (below : Below) (same : Same) (room : ℕ) (a : Tree) (d : ℕ) (ts : List Token) (y : Found) → followed below same room a d ts ≡ Ok y → Grows d y
 unfolding followed
-followed_grows below room a d [] y e = absurd (cc)
-followed_grows below room a d (t ∷ ts) y e = grown (following t) e where
-  grown : (o : Option (ℕ × (Tree → Form))) → (o >>= (λ o. whole room (at_least d (read_form below (o.1 a) ts)))) ≡ Some y → Grows room d y
+followed_grows below same room a d [] y e = absurd (cc)
+followed_grows below same room a d (t ∷ ts) y e = grown (following t) e where
+  grown : (o : Option (ℕ × Tail)) → (carried below same room a d o ts >>= whole) ≡ Ok y → Grows d y
   grown None e = absurd (cc)
-  grown (Some o) e = whole_grows room d (read_form below (o.1 a) ts) y e
-
-pub more_step : (below : Below) (room n l : ℕ) (x : Found) → following_level x.rest ≡ l → more below room (suc n) l x ≡ (followed below room x.tree x.depth x.rest >>= more below room n l)
-unfolding more
-more_step below room n l x e = rw (eq-eqb (following_level x.rest) l e) refl
-
-pub more_stop : (below : Below) (room n l : ℕ) (x : Found) → (following_level x.rest ≡ l → ⊥) → more below room (suc n) l x ≡ Some x
-unfolding more
-more_stop below room n l x e = rw (ne_eqb (following_level x.rest) l e) refl
+  grown (Some o) e =
+      let b = bind_ok (added below same room a d o.1 ts) whole y e in
+      let h = added_deep below same room a d o.1 ts b.0 b.1 in
+      let w = whole_ok b.0 y b.2 in
+      let f : b.0.depth + 1 ≡ y.depth = ap (λ (z : Found). z.depth) w.1 in
+      record { deeper = omega arith; small = omega (arith, w.0) }
 
 -- enough is as good as more
-more_same : (below : Below) (room l n m : ℕ) (x : Found) → x.depth ≤ room → room < n + x.depth → room < m + x.depth → more below room n l x ≡ more below room m l x
-more_same below room l zero m x small hn hm = absurd (omega arith)
-more_same below room l (suc n) zero x small hn hm = absurd (omega arith)
-more_same below room l (suc n) (suc m) x small hn hm =
+more_same : (below : Below) (same : Same) (room l n m : ℕ) (x : Found) → x.depth ≤ deepest → deepest < n + x.depth → deepest < m + x.depth → more below same room n l x ≡ more below same room m l x
+more_same below same room l zero m x small hn hm = absurd (omega arith)
+more_same below same room l (suc n) zero x small hn hm = absurd (omega arith)
+more_same below same room l (suc n) (suc m) x small hn hm =
     elim (eqb_tells (following_level x.rest) l) [
-      | inl h ↦ more_step below room n l x h.1 ∙ same_after (λ y g. more_same below room l n m y g.small (omega arith) (omega arith)) (followed below room x.tree x.depth x.rest) refl ∙ sym (more_step below room m l x h.1)
-      | inr h ↦ more_stop below room n l x h.1 ∙ sym (more_stop below room m l x h.1)
+      | inl h ↦ more_step below same room n l x h.1 ∙ same_after (λ y g. more_same below same room l n m y g.small (omega (arith, g.deeper)) (omega (arith, g.deeper))) (followed below same room x.tree x.depth x.rest) refl ∙ sym (more_step below same room m l x h.1)
+      | inr h ↦ more_stop below same room n l x h.1 ∙ sym (more_stop below same room m l x h.1)
     ] where
-      same_after : ((y : Found) → Grows room x.depth y → more below room n l y ≡ more below room m l y) → (r : Option Found) → followed below room x.tree x.depth x.rest ≡ r → (r >>= more below room n l) ≡ (r >>= more below room m l)
-      same_after same None e = refl
-      same_after same (Some y) e = same y (followed_grows below room x.tree x.depth x.rest y e)
+      same_after : ((y : Found) → Grows x.depth y → more below same room n l y ≡ more below same room m l y) → (r : Out) → followed below same room x.tree x.depth x.rest ≡ r → (r >>= again (to_right l) (more below same room n l)) ≡ (r >>= again (to_right l) (more below same room m l))
+      same_after equal (Err s) e = refl
+      same_after equal (Ok y) e = again_same (to_right l) (more below same room n l) (more below same room m l) y (equal y (followed_grows below same room x.tree x.depth x.rest y e))
 
-pub more_follows : (room l : ℕ) (x : Found) → following_level x.rest ≡ l → going room l x ≡ (followed (reader (room - 1)) room x.tree x.depth x.rest >>= going room l)
+-- the expression with the operator of a level after it
+abbrev pub carrying : ℕ → ℕ → Tree → ℕ → List Token → Out
+carrying room l a d ts = followed (reader (room - 1)) (reader room (l - 1)) room a d ts
+
+pub more_follows : (room l : ℕ) (x : Found) → following_level x.rest ≡ l → going room l x ≡ (carrying room l x.tree x.depth x.rest >>= again (to_right l) (going room l))
 unfolding going
-more_follows room l x e = more_step (reader (room - 1)) room room l x e ∙ same_after (followed (reader (room - 1)) room x.tree x.depth x.rest) refl where
-  same_after : (r : Option Found) → followed (reader (room - 1)) room x.tree x.depth x.rest ≡ r → (r >>= more (reader (room - 1)) room room l) ≡ (r >>= going room l)
-  same_after None e = refl
-  same_after (Some y) e = let g = followed_grows (reader (room - 1)) room x.tree x.depth x.rest y e in more_same (reader (room - 1)) room l room (suc room) y g.small (omega arith) (omega arith)
+more_follows room l x e = more_step (reader (room - 1)) (reader room (l - 1)) room deepest l x e ∙ same_after (carrying room l x.tree x.depth x.rest) refl where
+  same_after : (r : Out) → carrying room l x.tree x.depth x.rest ≡ r → (r >>= again (to_right l) (more (reader (room - 1)) (reader room (l - 1)) room deepest l)) ≡ (r >>= again (to_right l) (going room l))
+  same_after (Err s) e = refl
+  same_after (Ok y) e = let g = followed_grows (reader (room - 1)) (reader room (l - 1)) room x.tree x.depth x.rest y e in again_same (to_right l) (more (reader (room - 1)) (reader room (l - 1)) room deepest l) (going room l) y (more_same (reader (room - 1)) (reader room (l - 1)) room l deepest (suc deepest) y g.small (omega (arith, g.deeper)) (omega (arith, g.deeper)))
 
-pub nothing_follows : (room l : ℕ) (x : Found) → (following_level x.rest ≡ l → ⊥) → going room l x ≡ Some x
+pub nothing_follows : (room l : ℕ) (x : Found) → (following_level x.rest ≡ l → ⊥) → going room l x ≡ Ok x
 unfolding going
-nothing_follows room l x e = more_stop (reader (room - 1)) room room l x e
+nothing_follows room l x e = more_stop (reader (room - 1)) (reader room (l - 1)) room deepest l x e
 
-pub no_room : (l : ℕ) (ts : List Token) → reader 0 l ts ≡ None
-unfolding reader
-no_room l ts = refl
+err_not_ok : (s : Stop) (x : Found) → Err s ≡ ok x → ⊥
+err_not_ok s x e = absurd (cc)
 
-pub no_level : (room : ℕ) (ts : List Token) → reader room 0 ts ≡ None
+-- where no room is left nothing is read, whatever reads the parts
+begun_none : (b c : Below) (o : Option (ℕ × ℕ × Form)) (ts : List Token) → (begun b 0 o ts ≡ begun c 0 o ts) × ((x : Found) → begun b 0 o ts ≡ Ok x → ⊥)
+begun_none b c None ts = (refl, λ x e. absurd (cc))
+begun_none b c (Some o) ts = let h = not_ltb o.1 0 (omega arith) in (rw h refl, λ x e. let P : Bool → Type 0 = λ k. cond k (read_form b o.2 0 ts) (Err (deep (length ts))) ≡ Ok x in absurd (err_not_ok (deep (length ts)) x (subst P h e)))
+
+opened_none : (b c : Below) (ts : List Token) → (opened b 0 ts ≡ opened c 0 ts) × ((x : Found) → opened b 0 ts ≡ Ok x → ⊥)
+unfolding opened
+opened_none b c [] = (refl, λ x e. absurd (cc))
+opened_none b c (t ∷ ts) =
+    let h = begun_none b c (opening t) ts in
+    (ap (λ r. r >>= whole) h.0, λ x e. let k = bind_ok (begun b 0 (opening t) ts) whole x e in absurd (h.1 k.0 k.1))
+
+none_then : (r : Out) (f g : Found → Out) → ((x : Found) → r ≡ Ok x → ⊥) → (r >>= f) ≡ (r >>= g)
+none_then (Err s) f g h = refl
+none_then (Ok x) f g h = absurd (h x refl)
+
+at_none : (b : Below) (l : ℕ) (ts : List Token) (x : Found) → at b 0 l ts ≡ Ok x → ⊥
+unfolding at
+at_none b zero ts x e = absurd (cc)
+at_none b (suc l) ts x e =
+    let k = bind_ok (cond (opening_level ts == suc l) (opened b 0 ts) (at b 0 l ts)) (more b (at b 0 l) 0 (suc deepest) (suc l)) x e in
+    by_test (λ y h. at_none b l ts y h) (opening_level ts == suc l) k.0 k.1 where
+      by_test : ((y : Found) → at b 0 l ts ≡ Ok y → ⊥) → (c : Bool) (y : Found) → cond c (opened b 0 ts) (at b 0 l ts) ≡ Ok y → ⊥
+      by_test tighter true y e = (opened_none b b ts).1 y e
+      by_test tighter false y e = tighter y e
+
+no_level : (room : ℕ) (ts : List Token) → reader room 0 ts ≡ Err (wrong (length ts))
 unfolding reader at
 no_level zero ts = refl
 no_level (suc r) ts = refl
 
--- what a level gives, where what begins at it is known
-going_is : (r l : ℕ) → going (suc r) l ≡ more (reader r) (suc r) (suc (suc r)) l
+abbrev Begun : ℕ → ℕ → List Token → Out
+Begun room l ts = cond (opening_level ts == suc l) (opened (reader (room - 1)) room ts) (reader room l ts)
+
+dummy_begun : (l : ℕ) (ts : List Token) → cond (opening_level ts == suc l) (opened (λ k us. Err (wrong (length us))) 0 ts) (at (λ k us. Err (wrong (length us))) 0 l ts) ≡ Begun 0 l ts
+unfolding reader
+dummy_begun l ts = ap (λ r. cond (opening_level ts == suc l) r (at (λ k us. Err (wrong (length us))) 0 l ts)) (opened_none (λ k us. Err (wrong (length us))) (reader 0) ts).0
+
+begun_nothing : (l : ℕ) (ts : List Token) (x : Found) → Begun 0 l ts ≡ Ok x → ⊥
+unfolding reader
+begun_nothing l ts x e = by_test (opening_level ts == suc l) e where
+  by_test : (c : Bool) → cond c (opened (reader 0) 0 ts) (reader 0 l ts) ≡ Ok x → ⊥
+  by_test true e = (opened_none (reader 0) (reader 0) ts).1 x e
+  by_test false e = at_none (λ k us. Err (wrong (length us))) l ts x e
+
+going_is : (r l : ℕ) (x : Found) → going (suc r) (suc l) x ≡ more (reader r) (reader (suc r) l) (suc r) (suc deepest) (suc l) x
 unfolding going
-going_is r l = let s : suc r - 1 ≡ r = omega arith in ap (λ k. more (reader k) (suc r) (suc (suc r)) l) s
+going_is r l x =
+    let s : suc r - 1 ≡ r = omega arith in
+    let k : suc l - 1 ≡ l = omega arith in
+    ap (λ n. more (reader n) (reader (suc r) (suc l - 1)) (suc r) (suc deepest) (suc l) x) s
+    ∙ ap (λ n. more (reader r) (reader (suc r) n) (suc r) (suc deepest) (suc l) x) k
 
-here : (r l : ℕ) (ts : List Token) → opening_level ts ≡ suc l → reader (suc r) (suc l) ts ≡ (opened (reader r) (suc r) ts >>= more (reader r) (suc r) (suc (suc r)) (suc l))
+-- an expression of a level: what its first token begins at the level, or one of a tighter level, and
+-- the operators of the level after it
+pub level_step : (room l : ℕ) (ts : List Token) → reader room (suc l) ts ≡ (Begun room l ts >>= going room (suc l))
 unfolding reader at
-here r l ts e = rw (eq-eqb (opening_level ts) (suc l) e) refl
+level_step zero l ts =
+    ap (λ r. r >>= more (λ k us. Err (wrong (length us))) (at (λ k us. Err (wrong (length us))) 0 l) 0 (suc deepest) (suc l)) (dummy_begun l ts)
+    ∙ none_then (Begun 0 l ts) (more (λ k us. Err (wrong (length us))) (at (λ k us. Err (wrong (length us))) 0 l) 0 (suc deepest) (suc l)) (going 0 (suc l)) (begun_nothing l ts)
+level_step (suc r) l ts =
+    let s : r ≡ suc r - 1 = omega arith in
+    ap (λ k. cond (opening_level ts == suc l) (opened (reader k) (suc r) ts) (reader (suc r) l ts) >>= more (reader r) (reader (suc r) l) (suc r) (suc deepest) (suc l)) s
+    ∙ bind_same (Begun (suc r) l ts) (more (reader r) (reader (suc r) l) (suc r) (suc deepest) (suc l)) (going (suc r) (suc l)) (λ x. sym (going_is r l x))
 
-tighter_here : (r l : ℕ) (ts : List Token) → (opening_level ts ≡ suc l → ⊥) → reader (suc r) (suc l) ts ≡ (reader (suc r) l ts >>= more (reader r) (suc r) (suc (suc r)) (suc l))
-unfolding reader at
-tighter_here r l ts e = rw (ne_eqb (opening_level ts) (suc l) e) refl
+pub opens_here : (room l : ℕ) (ts : List Token) → 1 ≤ l → opening_level ts ≡ l → reader room l ts ≡ (opened (reader (room - 1)) room ts >>= going room l)
+opens_here room zero ts hl e = absurd (omega arith)
+opens_here room (suc l) ts hl e = level_step room l ts ∙ ap (λ b. cond b (opened (reader (room - 1)) room ts) (reader room l ts) >>= going room (suc l)) (eq-eqb (opening_level ts) (suc l) e)
 
--- what a level gives, where what begins at it is known
-pub opens_here : (room l : ℕ) (ts : List Token) → 1 ≤ room → 1 ≤ l → opening_level ts ≡ l → reader room l ts ≡ (opened (reader (room - 1)) room ts >>= going room l)
-opens_here zero l ts hr hl e = absurd (omega arith)
-opens_here (suc r) zero ts hr hl e = absurd (omega arith)
-opens_here (suc r) (suc l) ts hr hl e = let s : suc r - 1 ≡ r = omega arith in here r l ts e ∙ ap (λ g. opened (reader r) (suc r) ts >>= g) (sym (going_is r (suc l))) ∙ ap (λ k. opened (reader k) (suc r) ts >>= going (suc r) (suc l)) (sym s)
+pub opens_tighter : (room l : ℕ) (ts : List Token) → 1 ≤ l → (opening_level ts ≡ l → ⊥) → reader room l ts ≡ (reader room (l - 1) ts >>= going room l)
+opens_tighter room zero ts hl e = absurd (omega arith)
+opens_tighter room (suc l) ts hl e =
+    let s : suc l - 1 ≡ l = omega arith in
+    level_step room l ts ∙ ap (λ b. cond b (opened (reader (room - 1)) room ts) (reader room l ts) >>= going room (suc l)) (ne_eqb (opening_level ts) (suc l) e) ∙ ap (λ k. reader room k ts >>= going room (suc l)) (sym s)
 
-pub opens_tighter : (room l : ℕ) (ts : List Token) → 1 ≤ room → 1 ≤ l → (opening_level ts ≡ l → ⊥) → reader room l ts ≡ (reader room (l - 1) ts >>= going room l)
-opens_tighter zero l ts hr hl e = absurd (omega arith)
-opens_tighter (suc r) zero ts hr hl e = absurd (omega arith)
-opens_tighter (suc r) (suc l) ts hr hl e = let s : suc l - 1 ≡ l = omega arith in tighter_here r l ts e ∙ ap (λ g. reader (suc r) l ts >>= g) (sym (going_is r (suc l))) ∙ ap (λ k. reader (suc r) k ts >>= going (suc r) (suc l)) (sym s)
+-- The operators of a level and of the looser levels after it, as many as the number says.
+unfoldable pub climb : ℕ → ℕ → ℕ → Found → Out
+climb room k zero x = going room k x
+climb room k (suc n) x = going room k x >>= climb room (suc k) n
 
--- what stands behind the first token, as a slice's pattern gives it
-abbrev pub behind : List Token → List Token
-behind ts = take (length ts - 1) (drop 1 ts)
+climb_then : (room k n j : ℕ) (x : Found) → j ≡ suc (k + n) → (climb room k n x >>= going room j) ≡ climb room k (suc n) x
+unfolding climb
+climb_then room k zero j x e = let s : j ≡ suc k = omega arith in ap (λ i. going room k x >>= going room i) s
+climb_then room k (suc n) j x e = bind_bind (going room k x) (climb room (suc k) n) (going room j) ∙ bind_same (going room k x) (λ y. climb room (suc k) n y >>= going room j) (climb room (suc k) (suc n)) (λ y. climb_then room (suc k) n j y (omega arith))
 
-pub behind_is : (t : Token) (ts : List Token) → ts ≡ behind (t ∷ ts)
-behind_is t ts = let s : length (t ∷ ts) - 1 ≡ length ts = omega arith in sym (take_all (length (t ∷ ts) - 1) ts (omega arith))
+climb_none : (room k n : ℕ) → n ≡ 0 → (x : Found) → going room k x ≡ climb room k n x
+unfolding climb
+climb_none room k zero e x = refl
+climb_none room k (suc n) e x = absurd (omega arith)
 
--- The same of a list of tokens and its first token.
-pub opens_end : (below : Below) (room : ℕ) (ts : List Token) → length ts < 1 → opened below room ts ≡ None
-opens_end below room [] h = opened_end below room
-opens_end below room (t ∷ ts) h = absurd (omega arith)
+-- an expression is what its first token begins, and the operators after it, level by level
+pub reads_up : (room l : ℕ) (ts : List Token) → 1 ≤ opening_level ts → opening_level ts ≤ l → reader room l ts ≡ (opened (reader (room - 1)) room ts >>= climb room (opening_level ts) (l - opening_level ts))
+reads_up room zero ts ho hl = absurd (omega arith)
+reads_up room (suc l) ts ho hl =
+    elim (eqb_tells (opening_level ts) (suc l)) [
+      | inl h ↦ opens_here room (suc l) ts (omega arith) h.1 ∙ here (opened (reader (room - 1)) room ts) h.1
+      | inr h ↦
+          let s : suc l - 1 ≡ l = omega arith in
+          let ne : opening_level ts ≡ suc l → ⊥ = h.1 in
+          let below : opening_level ts ≤ l = omega (arith, ne) in
+          opens_tighter room (suc l) ts (omega arith) h.1
+          ∙ ap (λ k. reader room k ts >>= going room (suc l)) s
+          ∙ ap (λ r. r >>= going room (suc l)) (reads_up room l ts ho below)
+          ∙ bind_bind (opened (reader (room - 1)) room ts) (climb room (opening_level ts) (l - opening_level ts)) (going room (suc l))
+          ∙ bind_same (opened (reader (room - 1)) room ts) (λ x. climb room (opening_level ts) (l - opening_level ts) x >>= going room (suc l)) (climb room (opening_level ts) (suc (l - opening_level ts))) (λ x. climb_then room (opening_level ts) (l - opening_level ts) (suc l) x (omega arith))
+          ∙ ap (λ n. opened (reader (room - 1)) room ts >>= climb room (opening_level ts) n) (let e : suc (l - opening_level ts) ≡ suc l - opening_level ts = omega arith in e)
+    ] where
+      here : (r : Out) → opening_level ts ≡ suc l → (r >>= going room (suc l)) ≡ (r >>= climb room (opening_level ts) (suc l - opening_level ts))
+      here r e =
+          ap (λ k. r >>= going room k) (sym e)
+          ∙ bind_same r (going room (opening_level ts)) (climb room (opening_level ts) (suc l - opening_level ts)) (climb_none room (opening_level ts) (suc l - opening_level ts) (omega arith))
 
-pub opens_name : (below : Below) (room : ℕ) (ts : List Token) (t : Token) (n : List ℕ) → 1 ≤ length ts → t ≡ get_or ts 0 t → t.lexeme ≡ lexeme.Name n → opened below room ts ≡ finished room (name t.place (n ∷ [])) 0 (behind ts)
-opens_name below room [] t n h e en = absurd (omega arith)
-opens_name below room (u ∷ us) t n h e en = ap (λ x. opened below room (x ∷ us)) (sym e) ∙ opened_name below room t n us en ∙ ap (finished room (name t.place (n ∷ [])) 0) (behind_is u us)
+-- nothing is read where the first token begins nothing, or something looser
+pub nothing_begins : (room l : ℕ) (ts : List Token) → (1 ≤ opening_level ts → l < opening_level ts) → reader room l ts ≡ Err (wrong (length ts))
+nothing_begins room zero ts h = no_level room ts
+nothing_begins room (suc l) ts h =
+    let far : opening_level ts ≡ suc l → ⊥ = λ e. omega (arith, h (omega arith)) in
+    let s : suc l - 1 ≡ l = omega arith in
+    opens_tighter room (suc l) ts (omega arith) far
+    ∙ ap (λ k. reader room k ts >>= going room (suc l)) s
+    ∙ ap (λ q. q >>= going room (suc l)) (nothing_begins room l ts (λ k. omega (arith, h k)))
 
-pub opens_mark : (below : Below) (room : ℕ) (ts : List Token) (t : Token) (m : Mark) → 1 ≤ length ts → t ≡ get_or ts 0 t → t.lexeme ≡ lexeme.Mark m → opened below room ts ≡ opened_by below room t.place m (behind ts)
-opens_mark below room [] t m h e em = absurd (omega arith)
-opens_mark below room (u ∷ us) t m h e em = ap (λ x. opened below room (x ∷ us)) (sym e) ∙ opened_mark below room t m us em ∙ ap (opened_by below room t.place m) (behind_is u us)
+pub climb_more : (room k l : ℕ) (x : Found) → k < l → climb room k (l - k) x ≡ (going room k x >>= climb room (k + 1) (l - (k + 1)))
+unfolding climb
+climb_more room k l x h =
+    let e : l - k ≡ suc (l - (k + 1)) = omega arith in
+    let s : suc k ≡ k + 1 = omega arith in
+    ap (λ n. climb room k n x) e ∙ ap (λ j. going room k x >>= climb room j (l - (k + 1))) s
 
-pub follows_end : (below : Below) (room d : ℕ) (a : Tree) (ts : List Token) → length ts < 1 → followed below room a d ts ≡ None
-follows_end below room d a [] h = followed_end below room d a
-follows_end below room d a (t ∷ ts) h = absurd (omega arith)
+pub climb_end : (room k l : ℕ) (x : Found) → l ≡ k → climb room k (l - k) x ≡ going room k x
+climb_end room k l x h = sym (climb_none room k (l - k) (omega arith) x)
 
-pub follows_name : (below : Below) (room d : ℕ) (a : Tree) (ts : List Token) (t : Token) (n : List ℕ) → 1 ≤ length ts → t ≡ get_or ts 0 t → t.lexeme ≡ lexeme.Name n → followed below room a d ts ≡ None
-follows_name below room d a [] t n h e en = absurd (omega arith)
-follows_name below room d a (u ∷ us) t n h e en = ap (λ x. followed below room a d (x ∷ us)) (sym e) ∙ followed_name below room d a t n us en
+-- what is read had room
+pub had_room : (room : ℕ) (ts : List Token) (x : Found) → opened (reader (room - 1)) room ts ≡ Ok x → 1 ≤ room
+had_room zero ts x e = absurd ((opened_none (reader 0) (reader 0) ts).1 x e)
+had_room (suc r) ts x e = omega arith
 
-pub follows_mark : (below : Below) (room d : ℕ) (a : Tree) (ts : List Token) (t : Token) (m : Mark) → 1 ≤ length ts → t ≡ get_or ts 0 t → t.lexeme ≡ lexeme.Mark m → followed below room a d ts ≡ followed_by below room a d t.place m (behind ts)
-follows_mark below room d a [] t m h e em = absurd (omega arith)
-follows_mark below room d a (u ∷ us) t m h e em = ap (λ x. followed below room a d (x ∷ us)) (sym e) ∙ followed_mark below room d a t m us em ∙ ap (followed_by below room a d t.place m) (behind_is u us)
+pub tail_infix : (p : Place) (m : Mark) (l : ℕ) (o : Op2) → infix_of m ≡ Some (l, o) → tail_by p m ≡ Some (l, operand (two p o))
+tail_infix p marks.OpenSquare l o e = absurd (cc)
+tail_infix p marks.Question l o e = absurd (cc)
+tail_infix p marks.Arrow l o e = absurd (cc)
+tail_infix p m l o e = ap (infix_tail p) e

@@ -1,6 +1,14 @@
 pub mod Scanning
+pub mod Values
 pub mod Equations
-pub mod Sections
+pub mod Whole
+pub mod Tables
+pub mod Tells
 pub mod Sound
 pub mod Complete
+pub mod Reach
+pub mod Judge
+pub mod Judged
+pub mod Found
+pub mod Sections
 pub mod Programs

@@ -1,5 +1,6 @@
 -- Reading the sections of a model, one part after the other.
-use Rattle.std.proofs.Common.{◌≡◌, ◌<◌, ◌≤◌, ◌+◌, ◌⊎◌, ℕ, zero, suc, Bool, true, false, cond, List, [], ◌∷◌, ◌++◌, codes, length, length-append, get_or, Option, Some, None, refl, sym, ◌∙◌, ap, subst, append_assoc, append-nil, inl, inr, arith}
+use Rattle.std.proofs.Common.{◌≡◌, ◌<◌, ◌≤◌, ◌+◌, ◌-◌, ◌⊎◌, drop, take, ℕ, zero, suc, Bool, true, false, cond, List, [], ◌∷◌, ◌++◌, codes, length, length-append, get_or, Option, Some, None, refl, sym, ◌∙◌, ap, subst, append_assoc, append-nil, inl, inr, arith}
+use Rattle.std.proofs.lemmas.List.{take_all}
 use Rattle.std.specs.Option.{option_to_list}
 use Rattle.std.specs.Str.{bytes_eq}
 use Rattle.std.proofs.lemmas.Slice.Eq.{bytes_eq-Decides}
@@ -17,14 +18,20 @@ use Rattle.smv_parse.specs.declared.mark.Mark.TheVariants as marks
 use Rattle.smv_parse.specs.Answers.{◌>>=◌, Fails}
 use Rattle.smv_parse.specs.declared.fault.ParseFault.{ParseFault}
 use Rattle.smv_parse.specs.declared.fault.ParseFault.TheVariants as faults
-use Rattle.smv_parse.specs.Forms.{loosest}
+use Rattle.smv_parse.specs.Forms.{deepest, following_level, loosest}
 use Rattle.smv_parse.specs.Grammar.{Spells, marked, named}
-use Rattle.smv_parse.specs.Model.{SpellsBodies, SpellsParts, nothing, variables, a_variable, a_constraint, a_closed_constraint, the_module, deepest, section_of}
-use Rattle.smv_parse.specs.Parts.{Step, after_semicolon, bodies_of, constraint_at, declaration_at, main_body, parts_in, parts_of, step, step_by, step_mark, step_name, with_flag}
-use Rattle.smv_parse.specs.Reading.{Found, expect, following_level, is_mark, name_at, reader, same_mark}
-use Rattle.smv_parse.proofs.Complete.{complete}
-use Rattle.smv_parse.proofs.Equations.{behind, behind_is, nothing_follows}
-use Rattle.smv_parse.proofs.Sound.{bind_some, expect_some, is_mark_true, name_at_some, reader_sound}
+use Rattle.smv_parse.specs.Model.{SpellsBodies, SpellsParts, nothing, variables, a_variable, a_constraint, a_closed_constraint, the_module, section_of}
+use Rattle.smv_parse.specs.Parts.{Step, after_semicolon, bodies_of, constraint_at, declaration_at, expect, found_at, main_body, name_at, parts_in, parts_of, step, step_by, step_mark, step_name, with_flag}
+use Rattle.smv_parse.specs.Reading.{Found, is_mark, same_mark}
+use Rattle.smv_parse.proofs.Found.{bind_some, expect_some, found_complete, found_sound, name_at_some}
+use Rattle.smv_parse.proofs.Tells.{is_mark_true}
+
+-- what stands behind the first token, as a slice's pattern gives it
+abbrev pub behind : List Token → List Token
+behind ts = take (length ts - 1) (drop 1 ts)
+
+behind_is : (t : Token) (ts : List Token) → ts ≡ behind (t ∷ ts)
+behind_is t ts = let s : length (t ∷ ts) - 1 ≡ length ts = omega arith in sym (take_all (length (t ∷ ts) - 1) ts (omega arith))
 
 pub step_end : (v : Bool) (ts : List Token) → length ts < 1 → step v ts ≡ None
 unfolding step
@@ -49,6 +56,14 @@ step_at_mark v (u ∷ us) t m h e em = ap (λ x. step v (x ∷ us)) (sym e) ∙ 
 pub step_at_name : (v : Bool) (ts : List Token) (t : Token) (n : List ℕ) → 1 ≤ length ts → t ≡ get_or ts 0 t → t.lexeme ≡ lexeme.Name n → step v ts ≡ step_name v t.place n (behind ts)
 step_at_name v [] t n h e em = absurd (omega arith)
 step_at_name v (u ∷ us) t n h e em = ap (λ x. step v (x ∷ us)) (sym e) ∙ step_lexeme v t us (lexeme.Name n) em ∙ step_names v t n us ∙ ap (λ x. step_name v t.place n x) (behind_is u us)
+
+step_others : (v : Bool) (p : Place) (x : Lexeme) (ts : List Token) → step_by v p x ts ≡ None → step v (record { place = p; lexeme = x } ∷ ts) ≡ None
+unfolding step
+step_others v p x ts e = e
+
+pub step_at_other : (v : Bool) (ts : List Token) (t : Token) (x : Lexeme) → 1 ≤ length ts → t ≡ get_or ts 0 t → t.lexeme ≡ x → step_by v t.place x (behind ts) ≡ None → step v ts ≡ None
+step_at_other v [] t x h e ex en = absurd (omega arith)
+step_at_other v (u ∷ us) t x h e ex en = ap (λ y. step v (y ∷ us)) (sym e) ∙ step_lexeme v t us x ex ∙ step_others v t.place x us (ap (step_by v t.place x) (behind_is u us) ∙ en)
 
 -- what is read after parts that stand already
 abbrev pub with_parts : List Part → Option (List Part) → Option (List Part)
@@ -95,9 +110,10 @@ semicolon (t ∷ ts) = by_flag (is_mark marks.Semicolon t.lexeme) refl where
 constraint_sound : (v : Bool) (p : Place) (m : Mark) (s : Section) (ts : List Token) (y : Part × List Token) → section_of m ≡ Some s → constraint_at s p ts ≡ Some y → StepReads v (marked p m ∷ ts) (Some y.0, false, y.1)
 unfolding constraint_at
 constraint_sound v p m s ts y es e =
-    let b = bind_some (reader deepest loosest ts) (λ x. Some (constraint s p x.tree, after_semicolon x.rest)) y e in
+    let b = bind_some (found_at ts) (λ x. Some (constraint s p x.tree, after_semicolon x.rest)) y e in
     let x = b.0 in
-    let r = reader_sound deepest loosest ts x b.1 in
+    let r = found_sound ts x b.1 in
+    let k = r.holds in
     let P : Part × List Token → Type 0 = λ y. StepReads v (marked p m ∷ ts) (Some y.0, false, y.1) in
     let len : length ts ≡ length r.used + length x.rest = ap (λ (us : List Token). length us) r.split ∙ length-append r.used x.rest in
     subst P (some_one _ y b.2) (elim (semicolon x.rest) [
@@ -105,13 +121,13 @@ constraint_sound v p m s ts y es e =
           let lr : length x.rest ≡ length (marked h.0 marks.Semicolon ∷ after_semicolon x.rest) = ap (λ (us : List Token). length us) h.1 in
           record {
             shorter = omega arith;
-            spelled = λ ps g. let Q : List Token → Type 0 = λ us. SpellsParts v (marked p m ∷ us) (constraint s p x.tree ∷ ps) in subst Q (sym (r.split ∙ ap (λ us. r.used ++ us) h.1)) (a_closed_constraint v p h.0 m s r.used x.tree x.depth (after_semicolon x.rest) ps es r.spelled r.small g);
+            spelled = λ ps g. let Q : List Token → Type 0 = λ us. SpellsParts v (marked p m ∷ us) (constraint s p x.tree ∷ ps) in subst Q (sym (r.split ∙ ap (λ us. r.used ++ us) h.1)) (a_closed_constraint v p h.0 m s r.used x.tree x.depth (after_semicolon x.rest) ps es k.spelled k.small g);
           }
       | inr h ↦
           let lr : length x.rest ≡ length (after_semicolon x.rest) = ap (λ (us : List Token). length us) h in
           record {
             shorter = omega arith;
-            spelled = λ ps g. let Q : List Token → Type 0 = λ us. SpellsParts v (marked p m ∷ us) (constraint s p x.tree ∷ ps) in subst Q (sym (r.split ∙ ap (λ us. r.used ++ us) h)) (a_constraint v p m s r.used x.tree x.depth (after_semicolon x.rest) ps es r.spelled r.small g);
+            spelled = λ ps g. let Q : List Token → Type 0 = λ us. SpellsParts v (marked p m ∷ us) (constraint s p x.tree ∷ ps) in subst Q (sym (r.split ∙ ap (λ us. r.used ++ us) h)) (a_constraint v p m s r.used x.tree x.depth (after_semicolon x.rest) ps es k.spelled k.small g);
           }
     ])
 
@@ -141,6 +157,8 @@ step_sound v [] y e = absurd (cc)
 step_sound v (t ∷ ts) y e = by_lexeme t.lexeme refl e where
   by_lexeme : (x : Lexeme) → t.lexeme ≡ x → step_by v t.place x ts ≡ Some y → StepReads v (t ∷ ts) y
   by_lexeme (lexeme.Mark m) ex e = let P : Lexeme → Type 0 = λ x. StepReads v (record { place = t.place; lexeme = x } ∷ ts) y in subst P (sym ex) (mark_sound v t.place m ts y e)
+  by_lexeme (lexeme.Number n) ex e = absurd (cc)
+  by_lexeme (lexeme.Word w) ex e = absurd (cc)
   by_lexeme (lexeme.Name n) ex e = let P : Lexeme → Type 0 = λ x. StepReads v (record { place = t.place; lexeme = x } ∷ ts) y in subst P (sym ex) (name_sound v t.place n ts y e)
 
 parts_sound : (n : ℕ) (v : Bool) (ts : List Token) (ps : List Part) → parts_in n v ts ≡ Some ps → SpellsParts v ts ps
@@ -229,8 +247,7 @@ parts_plain (a_closed_constraint v p q m s us x d ts ps es g small h) = section_
 read_constraint : (s : Section) (p : Place) (us ts : List Token) (x : Tree) (d : ℕ) → Spells loosest us x d → d ≤ deepest → following_level ts ≡ 0 → constraint_at s p (us ++ ts) ≡ Some (constraint s p x, after_semicolon ts)
 unfolding constraint_at
 read_constraint s p us ts x d g small e =
-    let away : following_level ts ≡ loosest → ⊥ = λ k. omega arith in
-    ap (λ (r : Option Found). r >>= (λ y. Some (constraint s p y.tree, after_semicolon y.rest))) (complete deepest g small ts (λ k. e) ∙ nothing_follows deepest loosest (record { tree = x; depth = d; rest = ts }) away)
+    ap (λ (r : Option Found). r >>= (λ y. Some (constraint s p y.tree, after_semicolon y.rest))) (found_complete us ts x d g small e)
 
 step_of_mark : (v : Bool) (p : Place) (m : Mark) (ts : List Token) → step v (marked p m ∷ ts) ≡ step_mark p m ts
 unfolding step

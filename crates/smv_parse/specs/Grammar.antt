@@ -1,11 +1,11 @@
 -- Which tokens spell which expression, and how deep it is nested.
-use Rattle.std.specs.Prelude.{◌≡◌, ℕ, suc, max, List, [], ◌∷◌, ◌++◌, Some}
+use Rattle.std.specs.Prelude.{◌≡◌, ◌-◌, ℕ, suc, max, List, [], ◌∷◌, ◌++◌, Some}
 use Rattle.smv_tree.specs.declared.place.Place.{Place}
 use Rattle.smv_tree.specs.Trees.{Tree}
 use Rattle.smv_parse.specs.declared.mark.Mark.{Mark}
 use Rattle.smv_parse.specs.declared.token.Token.{Token}
 use Rattle.smv_parse.specs.declared.token.Lexeme.TheVariants as lexeme
-use Rattle.smv_parse.specs.Forms.{Form, gives, mark, path, part, opening, following}
+use Rattle.smv_parse.specs.Forms.{Form, gives, mark, part, last, operand, tail, opening, following, left_level, numeral}
 
 abbrev pub marked : Place → Mark → Token
 marked p m = record { place = p; lexeme = lexeme.Mark m }
@@ -13,18 +13,23 @@ marked p m = record { place = p; lexeme = lexeme.Mark m }
 abbrev pub named : Place → List ℕ → Token
 named p n = record { place = p; lexeme = lexeme.Name n }
 
-mutual
-  -- The tokens spell an expression of the level or of a tighter one. A form and an operator are one
-  -- deeper than their deepest part.
-  pub data Spells : ℕ → List Token → Tree → ℕ → Type 0 where
-    opens : (t : Token) (l : ℕ) (f : Form) (ts : List Token) (x : Tree) (d : ℕ) → opening t ≡ Some (l, f) → SpellsForm f ts x d → Spells l (t ∷ ts) x (suc d)
-    tighter : (l : ℕ) (ts : List Token) (x : Tree) (d : ℕ) → Spells l ts x d → Spells (suc l) ts x d
-    follows : (t : Token) (l : ℕ) (f : Tree → Form) (ts us : List Token) (a x : Tree) (d e : ℕ) → following t ≡ Some (l, f) → Spells l ts a d → SpellsForm (f a) us x e → Spells l (ts ++ t ∷ us) x (suc (max d e))
+abbrev pub counted : Place → ℕ → Token
+counted p n = record { place = p; lexeme = lexeme.Number n }
 
-  -- The tokens are what follows the beginning of a form, and the number is the depth of its deepest
-  -- part, where a name counts as 1.
-  pub data SpellsForm : Form → List Token → Tree → ℕ → Type 0 where
-    ends : (x : Tree) → SpellsForm (gives x) [] x 0
-    a_mark : (p : Place) (m : Mark) (f : Form) (ts : List Token) (x : Tree) (d : ℕ) → SpellsForm f ts x d → SpellsForm (mark m f) (marked p m ∷ ts) x d
-    a_name : (p : Place) (n : List ℕ) (f : Place → List ℕ → Form) (ts : List Token) (x : Tree) (d : ℕ) → SpellsForm (f p n) ts x d → SpellsForm (path f) (named p n ∷ ts) x (max 1 d)
-    a_part : (l : ℕ) (f : Tree → Form) (ts us : List Token) (a x : Tree) (d e : ℕ) → Spells l ts a d → SpellsForm (f a) us x e → SpellsForm (part l f) (ts ++ us) x (max d e)
+mutual
+  -- The tokens spell an expression of the level or of a tighter one, and the number is its depth: a
+  -- form and an operator are one deeper than their deepest part.
+  pub data Spells : ℕ → List Token → Tree → ℕ → Type 0 where
+    opens : (t : Token) (l n : ℕ) (f : Form) (ts : List Token) (x : Tree) (d : ℕ) → opening t ≡ Some (l, n, f) → SpellsForm f 0 ts x d → Spells l (t ∷ ts) x (suc d)
+    tighter : (l : ℕ) (ts : List Token) (x : Tree) (d : ℕ) → Spells l ts x d → Spells (suc l) ts x d
+    joins : (t : Token) (l : ℕ) (f : Tree → Tree → Tree) (ts us : List Token) (a b : Tree) (d e : ℕ) → following t ≡ Some (l, operand f) → Spells (left_level l) ts a d → Spells (l - 1) us b e → Spells l (ts ++ t ∷ us) (f a b) (suc (max d e))
+    follows : (t : Token) (l n : ℕ) (f : Tree → Form) (ts us : List Token) (a x : Tree) (d e : ℕ) → following t ≡ Some (l, tail n f) → Spells (left_level l) ts a d → SpellsForm (f a) d us x e → Spells l (ts ++ t ∷ us) x (suc e)
+
+  -- The tokens are what follows the beginning of a form, where the deepest part before them has the
+  -- first depth, and the deepest of all has the second; a number counts as 1.
+  pub data SpellsForm : Form → ℕ → List Token → Tree → ℕ → Type 0 where
+    ends : (x : Tree) (d : ℕ) → SpellsForm (gives x) d [] x d
+    a_mark : (p : Place) (m : Mark) (f : Form) (d : ℕ) (ts : List Token) (x : Tree) (e : ℕ) → SpellsForm f d ts x e → SpellsForm (mark m f) d (marked p m ∷ ts) x e
+    a_number : (p : Place) (n : ℕ) (f : ℕ → Form) (d : ℕ) (ts : List Token) (x : Tree) (e : ℕ) → SpellsForm (f n) (max d 1) ts x e → SpellsForm (numeral f) d (counted p n ∷ ts) x e
+    a_part : (l : ℕ) (p : Place) (m : Mark) (f : Tree → Form) (d : ℕ) (ts us : List Token) (a x : Tree) (b e : ℕ) → Spells l ts a b → SpellsForm (f a) (max d b) us x e → SpellsForm (part l m f) d (ts ++ marked p m ∷ us) x e
+    a_last : (l : ℕ) (f : Tree → Tree) (d : ℕ) (ts : List Token) (a : Tree) (b : ℕ) → Spells l ts a b → SpellsForm (last l f) d ts (f a) (max d b)

@@ -2,10 +2,17 @@ pub mod Marks
 pub mod LeftOut
 pub mod Answers
 pub mod Tokens
+pub mod Scans
+pub mod Numbers
 pub mod Forms
 pub mod Grammar
+pub mod Fronts
 pub mod Reading
+pub mod Halts
 pub mod Part
+pub mod Faults
+pub mod Verdicts
+pub mod FirstForm
 pub mod Model
 pub mod Parts
 pub mod StepView

@@ -10,7 +10,8 @@ use Rattle.smv_tree.specs.Models.{Body, Part, plain, variable, constraint}
 use Rattle.smv_parse.specs.declared.mark.Mark.{Mark}
 use Rattle.smv_parse.specs.declared.mark.Mark.TheVariants as marks
 use Rattle.smv_parse.specs.declared.token.Token.{Token}
-use Rattle.smv_parse.specs.Forms.{loosest}
+use Rattle.smv_parse.specs.FirstForm.{is_first}
+use Rattle.smv_parse.specs.Forms.{deepest, loosest}
 use Rattle.smv_parse.specs.Grammar.{Spells, marked, named}
 use Rattle.smv_parse.specs.Tokens.{tokens_of}
 
@@ -19,10 +20,6 @@ abbrev pub section_of : Mark → Option Section
 section_of marks.Init = Some section.Init
 section_of marks.Trans = Some section.Trans
 section_of m = None
-
--- how deep an expression may be
-abbrev pub deepest : ℕ
-deepest = 1000
 
 -- The tokens are sections that hold these parts. The flag says that they stand in a section of
 -- variables, which may go on.
@@ -37,8 +34,17 @@ pub data SpellsParts : Bool → List Token → List Part → Type 0 where
 pub data SpellsBodies : List Token → List Body → Type 0 where
   the_module : (p q : Place) (ts : List Token) (ps : List Part) → SpellsParts false ts ps → SpellsBodies (marked p marks.Module ∷ named q (codes "main") ∷ ts) (record { name = codes "main"; place = q; params = []; parts = ps } ∷ [])
 
--- The text spells these modules.
+-- The text spells this expression.
+pub record SpellsExpr (bytes : List ℕ) (x : Tree) : Type 0 where
+  pub tokens : List Token
+  pub scanned : tokens_of bytes ≡ Some tokens
+  pub depth : ℕ
+  pub spelled : Spells loosest tokens x depth
+  pub small : depth ≤ deepest
+
+-- The text spells these modules, by tokens of the first form.
 pub record SpellsModel (bytes : List ℕ) (ms : List Body) : Type 0 where
   pub tokens : List Token
   pub scanned : tokens_of bytes ≡ Some tokens
+  pub first : is_first tokens ≡ true
   pub spelled : SpellsBodies tokens ms

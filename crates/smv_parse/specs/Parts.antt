@@ -1,5 +1,5 @@
 -- How the sections of a model are read from tokens.
-use Rattle.std.specs.Prelude.{ℕ, zero, suc, Bool, true, false, List, [], ◌∷◌, ◌++◌, Option, Some, None, if◌then◌else◌, length, option_to_list, codes}
+use Rattle.std.specs.Prelude.{ℕ, zero, suc, Bool, true, false, List, [], ◌∷◌, ◌++◌, Option, Some, None, Result, Ok, Err, if◌then◌else◌, length, option_to_list, codes}
 use Rattle.std.specs.Str.{bytes_eq}
 use Rattle.smv_tree.specs.declared.place.Place.{Place}
 use Rattle.smv_tree.specs.declared.program.Kind.TheVariants as kind
@@ -12,10 +12,33 @@ use Rattle.smv_parse.specs.declared.token.Token.{Token}
 use Rattle.smv_parse.specs.declared.token.Lexeme.{Lexeme}
 use Rattle.smv_parse.specs.declared.token.Lexeme.TheVariants as lexeme
 use Rattle.smv_parse.specs.Answers.{◌>>=◌}
-use Rattle.smv_parse.specs.Forms.{loosest}
-use Rattle.smv_parse.specs.Model.{deepest, section_of}
-use Rattle.smv_parse.specs.Reading.{expect, is_mark, name_at, reader}
+use Rattle.smv_parse.specs.FirstForm.{is_first}
+use Rattle.smv_parse.specs.Forms.{deepest, loosest}
+use Rattle.smv_parse.specs.Model.{section_of}
+use Rattle.smv_parse.specs.Reading.{Found, Stop, is_mark, reader}
 use Rattle.smv_parse.specs.Tokens.{tokens_of}
+
+abbrev pub option_of : {X : Type 0} → Result X Stop → Option X
+option_of (Ok x) = Some x
+option_of (Err s) = None
+
+-- the expression at the front
+unfoldable pub found_at : List Token → Option Found
+found_at ts = option_of (reader (suc deepest) loosest ts)
+
+-- the place of the mark at the front, and the tokens after it
+abbrev pub expect : Mark → List Token → Option (Place × List Token)
+expect m [] = None
+expect m (t ∷ ts) = if is_mark m t.lexeme then Some (t.place, ts) else None
+
+abbrev pub name_in : Place → Lexeme → List Token → Option (List ℕ × Place × List Token)
+name_in p (lexeme.Name n) ts = Some (n, p, ts)
+name_in p l ts = None
+
+-- the name at the front, its place, and the tokens after it
+abbrev pub name_at : List Token → Option (List ℕ × Place × List Token)
+name_at [] = None
+name_at (t ∷ ts) = name_in t.place t.lexeme ts
 
 -- the tokens after a semicolon, if there is one
 abbrev pub after_semicolon : List Token → List Token
@@ -33,7 +56,7 @@ declaration_at n p ts = do
 -- a constraint, behind its word
 unfoldable pub constraint_at : Section → Place → List Token → Option (Part × List Token)
 constraint_at s p ts = do
-  x ← reader deepest loosest ts
+  x ← found_at ts
   Some (constraint s p x.tree, after_semicolon x.rest)
 
 -- a part that was read, whether variables may follow, and the tokens after it
@@ -53,6 +76,7 @@ step_name v p n ts = if v then with_flag true (declaration_at n p ts) else None
 abbrev pub step_by : Bool → Place → Lexeme → List Token → Option Step
 step_by v p (lexeme.Name n) ts = step_name v p n ts
 step_by v p (lexeme.Mark m) ts = step_mark p m ts
+step_by v p l ts = None
 
 -- the next part, or the word before variables
 unfoldable pub step : Bool → List Token → Option Step
@@ -83,6 +107,6 @@ bodies_of ts = do
   ps ← parts_of false n.2
   if bytes_eq n.0 (codes "main") then Some (main_body n.0 n.1 ps) else None
 
--- the modules of a text
+-- the modules of a text, by tokens of the first form
 unfoldable pub program_of : List ℕ → Option (List Body)
-program_of bytes = tokens_of bytes >>= bodies_of
+program_of bytes = tokens_of bytes >>= (λ ts. if is_first ts then bodies_of ts else None)

@@ -1,143 +1,215 @@
-ghost use Rattle.std.specs.Prelude.{◌≡◌, ◌-◌, ◌<◌, ◌≤◌, ◌∷◌, [], IfErr, IfOk, Some};
-ghost use Rattle.smv_tree.specs.Trees.{expr_tree, name as name_tree};
-ghost use Rattle.smv_parse.specs.Answers.{Gives, IsRefusal};
+ghost use Rattle.std.specs.Prelude.{◌≡◌, ◌-◌, ◌<◌, ◌≤◌, ◌∷◌, [], IfOk, Some};
+ghost use Rattle.smv_tree.specs.Trees.{expr_tree, name as name_tree, next, one, two};
+ghost use Rattle.smv_parse.specs.Halts.{Reads};
 ghost use Rattle.smv_parse.specs.Part.{found_of};
-ghost use Rattle.smv_parse.specs.Reading.{expect, finished, followed, followed_by, following_level, name_at, negation_read, next_read, opened, opened_by, opening_level, reader, whole};
+ghost use Rattle.smv_parse.specs.Forms.{alone, applied, bracketed, branching, following_level, form, function_form, implying, level_of, opening, operand, prefixed, selection, tail_by, widened};
+ghost use Rattle.smv_parse.specs.Reading.{added, begun, carried, expect, followed, going, number_at, opened, reader, whole};
 
-use crate::fault::ParseFault;
+use crate::forms::{capped, following_level, function_of, infix_of, opening_level, to_right};
+use crate::halt::Halt;
 use crate::mark::Mark;
 use crate::part::Part;
 use crate::token::{Lexeme, Token};
-use smv_tree::{Expr, Name, Op1, Op2, Path, Place};
+use smv_tree::{Expr, Name, Op1, Op2, Path, Place, WordVal};
 use std::alloc::{AllocError, Global};
 
-/// A second name of the same bytes.
-pub fn copy_name(alloc: Global, name: &Name) -> Result<Name, ParseFault>
-    ensures { Gives (λ n. n) result (Some name.now) }
-{
-    Ok(Name::from_vec(Vec::from_slice(alloc, name.as_slice())?))
-}
-
-/// The tokens after a mark, and its place.
+/// The tokens after a mark.
 #[tactic(auto, unfolding(crate::specs::Reading::same_mark))]
-pub fn expect(mark: Mark, tokens: &[Token]) -> Result<(Place, &[Token]), ParseFault>
-    ensures refused { IfErr result IsRefusal }
-    ensures value { Gives (λ x. (x.0, x.1.now)) result (expect mark tokens.now) }
+fn expect(mark: Mark, tokens: &[Token]) -> Result<&[Token], Halt>
+    ensures { Reads (λ x. x.now) result (expect mark tokens.now) }
 {
     let [first, rest @ ..] = tokens else {
-        return Err(ParseFault::Refused);
+        return Err(Halt::Wrong(0));
     };
     match first.lexeme {
-        Lexeme::Mark(found) if mark == found => Ok((first.place, rest)),
-        _ => Err(ParseFault::Refused),
+        Lexeme::Mark(found) if mark == found => Ok(rest),
+        _ => Err(Halt::Wrong(tokens.len())),
     }
 }
 
-/// A copy of the name at the front, its place, and the tokens after it.
-pub fn name_at(alloc: Global, tokens: &[Token]) -> Result<(Name, Place, &[Token]), ParseFault>
-    ensures { Gives (λ x. (x.0, x.1, x.2.now)) result (name_at tokens.now) }
+/// The number at the front, and the tokens after it.
+fn number_at(tokens: &[Token]) -> Result<(u64, &[Token]), Halt>
+    ensures { Reads (λ x. (x.0, x.1.now)) result (number_at tokens.now) }
 {
     let [first, rest @ ..] = tokens else {
-        return Err(ParseFault::Refused);
-    };
-    match &first.lexeme {
-        Lexeme::Name(name) => Ok((copy_name(alloc, name)?, first.place, rest)),
-        Lexeme::Mark(_) => Err(ParseFault::Refused),
-    }
-}
-
-/// The level of what the first token begins, or 0.
-fn opening_level(tokens: &[Token]) -> u32
-    ensures { result ≡ opening_level tokens.now }
-{
-    let [first, ..] = tokens else {
-        return 0;
+        return Err(Halt::Wrong(0));
     };
     match first.lexeme {
-        Lexeme::Name(_) => 1,
-        Lexeme::Mark(Mark::True) => 1,
-        Lexeme::Mark(Mark::False) => 1,
-        Lexeme::Mark(Mark::Next) => 1,
-        Lexeme::Mark(Mark::Bang) => 2,
-        _ => 0,
+        Lexeme::Number(value) => Ok((value, rest)),
+        _ => Err(Halt::Wrong(tokens.len())),
     }
 }
 
-/// The level of the operator at the front, or 0.
-fn following_level(tokens: &[Token]) -> u32
-    ensures { result ≡ following_level tokens.now }
+/// The same expression, one deeper than its deepest part, if it may be so deep.
+fn finish(part: Part, rest: &[Token]) -> Result<(Part, &[Token]), Halt>
+    ensures deeper { IfOk result (λ x. (part.depth < x.0.depth) × (x.0.depth ≤ 1000)) }
+    ensures value { Reads found_of result (whole (record { tree = expr_tree part.expr; depth = part.depth; rest = rest.now })) }
 {
-    let [first, ..] = tokens else {
-        return 0;
-    };
-    match first.lexeme {
-        Lexeme::Mark(Mark::Equals) => 10,
-        _ => 0,
-    }
-}
-
-/// One deeper than the deepest part, if there is room for that.
-fn finish(room: u32, expr: Expr, depth: u32, rest: &[Token]) -> Result<(Part, &[Token]), ParseFault>
-    ensures deeper { IfOk result (λ x. (depth < x.0.depth) × (x.0.depth ≤ room)) }
-    ensures value { Gives found_of result (finished room (expr_tree expr) depth rest.now) }
-{
-    if depth < room {
-        let depth = depth + 1;
-        Ok((Part { expr, depth }, rest))
+    if part.depth < 1000 {
+        let depth = part.depth + 1;
+        Ok((
+            Part {
+                expr: part.expr,
+                depth,
+            },
+            rest,
+        ))
     } else {
-        Err(ParseFault::Refused)
+        Err(Halt::Deep(rest.len()))
     }
 }
 
-/// `next` and a name in brackets, behind the word.
-fn next_name(
-    alloc: Global,
-    room: u32,
-    place: Place,
-    tokens: &[Token],
-) -> Result<(Part, &[Token]), ParseFault>
-    ensures { Gives found_of result (next_read room place tokens.now) }
+/// What stands alone, behind its token.
+#[tactic(auto, unfolding(crate::specs::Reading::read_form))]
+fn leaf(room: u32, expr: Expr, rest: &[Token]) -> Result<(Part, &[Token]), Halt>
+    ensures { Reads found_of result (begun (reader (room - 1)) room (Some (alone (expr_tree expr))) rest.now) }
 {
-    let (_, rest) = expect(Mark::OpenRound, tokens)?;
-    let (name, at, rest) = name_at(alloc, rest)?;
-    let (_, rest) = expect(Mark::CloseRound, rest)?;
-    let expr = Expr::Next(
-        place,
-        Box::new(
-            alloc,
-            Expr::Name(at, Path::from_vec(one_name(alloc, name)?)),
-        )?,
-    );
-    finish(room, expr, 1, rest)
+    if 0 < room {
+        Ok((Part { expr, depth: 0 }, rest))
+    } else {
+        Err(Halt::Deep(rest.len()))
+    }
 }
 
 /// A list of one name.
-fn one_name(alloc: Global, name: Name) -> Result<Vec<Name>, ParseFault>
-    ensures { Gives (λ v. v.items) result (Some (name ∷ [])) }
+fn one_name(alloc: Global, name: &Name) -> Result<Vec<Name>, AllocError>
+    ensures { IfOk result (λ v. v.items ≡ name.now ∷ []) }
 {
     let mut names = Vec::new(alloc);
-    names.push(name)?;
+    names.push(Name::from_vec(Vec::from_slice(alloc, name.as_slice())?))?;
     Ok(names)
 }
 
-/// `!` and its operand, behind the mark.
+/// A name, behind it.
+fn variable<'a>(
+    alloc: Global,
+    room: u32,
+    place: Place,
+    name: &Name,
+    rest: &'a [Token],
+) -> Result<(Part, &'a [Token]), Halt>
+    ensures { Reads found_of result (begun (reader (room - 1)) room (Some (alone (name_tree place (name.now ∷ [])))) rest.now) }
+{
+    let names = one_name(alloc, name)?;
+    leaf(room, Expr::Name(place, Path::from_vec(names)), rest)
+}
+
+/// An operand of a level behind a mark.
 #[cycle(expression)]
-fn negation(
+#[tactic(auto, unfolding(crate::specs::Reading::read_form))]
+fn prefix(
+    alloc: Global,
+    room: u32,
+    level: u32,
+    op: Op1,
+    place: Place,
+    tokens: &[Token],
+) -> Result<(Part, &[Token]), Halt>
+    requires small { room ≤ 1001 }
+    requires loosest { level ≤ 15 }
+    ensures { Reads found_of result (begun (reader (room - 1)) room (Some (prefixed level (one place op))) tokens.now) }
+{
+    if room < 2 {
+        return Err(Halt::Deep(tokens.len()));
+    }
+    let (part, rest) = at(alloc, room - 1, level, tokens)?;
+    let depth = part.depth;
+    let expr = Expr::One(place, op, Box::new(alloc, part.expr)?);
+    Ok((Part { expr, depth }, rest))
+}
+
+/// An expression in brackets, behind the first of them.
+#[cycle(expression)]
+#[tactic(auto, unfolding(crate::specs::Reading::read_form))]
+fn bracketed(alloc: Global, room: u32, tokens: &[Token]) -> Result<(Part, &[Token]), Halt>
+    requires small { room ≤ 1001 }
+    ensures { Reads found_of result (begun (reader (room - 1)) room (Some bracketed) tokens.now) }
+{
+    if room < 2 {
+        return Err(Halt::Deep(tokens.len()));
+    }
+    let (part, rest) = at(alloc, room - 1, 15, tokens)?;
+    let rest = expect(Mark::CloseRound, rest)?;
+    Ok((part, rest))
+}
+
+/// The next value of an expression, behind the word.
+#[cycle(expression)]
+#[tactic(auto, unfolding(crate::specs::Reading::read_form))]
+fn next_value(
     alloc: Global,
     room: u32,
     place: Place,
     tokens: &[Token],
-) -> Result<(Part, &[Token]), ParseFault>
-    requires some { 1 ≤ room }
-    requires small { room ≤ 1000 }
-    ensures { Gives found_of result (negation_read (reader (room - 1)) room place tokens.now) }
+) -> Result<(Part, &[Token]), Halt>
+    requires small { room ≤ 1001 }
+    ensures { Reads found_of result (begun (reader (room - 1)) room (Some (applied (next place))) tokens.now) }
 {
-    let (part, rest) = at(alloc, room - 1, 2, tokens)?;
-    let expr = Expr::One(place, Op1::Not, Box::new(alloc, part.expr)?);
-    finish(room, expr, part.depth, rest)
+    if room < 2 {
+        return Err(Halt::Deep(tokens.len()));
+    }
+    let rest = expect(Mark::OpenRound, tokens)?;
+    let (part, rest) = at(alloc, room - 1, 15, rest)?;
+    let rest = expect(Mark::CloseRound, rest)?;
+    let depth = part.depth;
+    let expr = Expr::Next(place, Box::new(alloc, part.expr)?);
+    Ok((Part { expr, depth }, rest))
 }
 
-/// The form that a mark begins, behind the mark.
+/// A function of one operand, behind its word.
+#[cycle(expression)]
+#[tactic(auto, unfolding(crate::specs::Reading::read_form))]
+fn function_by(
+    alloc: Global,
+    room: u32,
+    place: Place,
+    function: Option<Op1>,
+    tokens: &[Token],
+) -> Result<(Part, &[Token]), Halt>
+    requires small { room ≤ 1001 }
+    ensures { Reads found_of result (begun (reader (room - 1)) room (function_form place function) tokens.now) }
+{
+    let Some(op) = function else {
+        return Err(Halt::Wrong(tokens.len() + 1));
+    };
+    if room < 2 {
+        return Err(Halt::Deep(tokens.len()));
+    }
+    let rest = expect(Mark::OpenRound, tokens)?;
+    let (part, rest) = at(alloc, room - 1, 15, rest)?;
+    let rest = expect(Mark::CloseRound, rest)?;
+    let depth = part.depth;
+    let expr = Expr::One(place, op, Box::new(alloc, part.expr)?);
+    Ok((Part { expr, depth }, rest))
+}
+
+/// An expression and a width in brackets, behind the word.
+#[cycle(expression)]
+#[tactic(auto, unfolding(crate::specs::Reading::read_form))]
+fn widening(
+    alloc: Global,
+    room: u32,
+    place: Place,
+    resize: bool,
+    tokens: &[Token],
+) -> Result<(Part, &[Token]), Halt>
+    requires small { room ≤ 1001 }
+    ensures { Reads found_of result (begun (reader (room - 1)) room (Some (widened place resize)) tokens.now) }
+{
+    if room < 2 {
+        return Err(Halt::Deep(tokens.len()));
+    }
+    let rest = expect(Mark::OpenRound, tokens)?;
+    let (part, rest) = at(alloc, room - 1, 15, rest)?;
+    let rest = expect(Mark::Comma, rest)?;
+    let (width, rest) = number_at(rest)?;
+    let rest = expect(Mark::CloseRound, rest)?;
+    let depth = part.depth.max(1);
+    let expr = Expr::Widen(place, resize, Box::new(alloc, part.expr)?, capped(width));
+    Ok((Part { expr, depth }, rest))
+}
+
+/// What a mark begins, behind it.
 #[cycle(expression)]
 fn opened_by(
     alloc: Global,
@@ -145,128 +217,259 @@ fn opened_by(
     place: Place,
     mark: Mark,
     tokens: &[Token],
-) -> Result<(Part, &[Token]), ParseFault>
-    requires some { 1 ≤ room }
-    requires small { room ≤ 1000 }
-    ensures { Gives found_of result (opened_by (reader (room - 1)) room place mark tokens.now) }
+) -> Result<(Part, &[Token]), Halt>
+    requires small { room ≤ 1001 }
+    ensures { Reads found_of result (begun (reader (room - 1)) room (form place mark) tokens.now) }
 {
     match mark {
-        Mark::True => finish(room, Expr::Truth(place, true), 0, tokens),
-        Mark::False => finish(room, Expr::Truth(place, false), 0, tokens),
-        Mark::Next => next_name(alloc, room, place, tokens),
-        Mark::Bang => negation(alloc, room, place, tokens),
-        _ => Err(ParseFault::Refused),
+        Mark::True => leaf(room, Expr::Truth(place, true), tokens),
+        Mark::False => leaf(room, Expr::Truth(place, false), tokens),
+        Mark::OpenRound => bracketed(alloc, room, tokens),
+        Mark::Next => next_value(alloc, room, place, tokens),
+        Mark::Extend => widening(alloc, room, place, false, tokens),
+        Mark::Resize => widening(alloc, room, place, true, tokens),
+        Mark::Bang => prefix(alloc, room, 2, Op1::Not, place, tokens),
+        Mark::Minus => prefix(alloc, room, 4, Op1::Neg, place, tokens),
+        _ => function_by(alloc, room, place, function_of(mark), tokens),
     }
 }
 
-/// A name as an expression.
-fn variable<'a>(
+/// What a token begins, behind it.
+#[cycle(expression)]
+fn begun<'a>(
     alloc: Global,
     room: u32,
-    place: Place,
-    name: &Name,
-    rest: &'a [Token],
-) -> Result<(Part, &'a [Token]), ParseFault>
-    ensures { Gives found_of result (finished room (name_tree place (name.now ∷ [])) 0 rest.now) }
+    first: &Token,
+    tokens: &'a [Token],
+) -> Result<(Part, &'a [Token]), Halt>
+    requires small { room ≤ 1001 }
+    ensures { Reads found_of result (begun (reader (room - 1)) room (opening first.now) tokens.now) }
 {
-    let names = one_name(alloc, copy_name(alloc, name)?)?;
-    finish(room, Expr::Name(place, Path::from_vec(names)), 0, rest)
+    match &first.lexeme {
+        Lexeme::Name(name) => variable(alloc, room, first.place, name, tokens),
+        Lexeme::Mark(mark) => opened_by(alloc, room, first.place, *mark, tokens),
+        Lexeme::Number(value) => leaf(room, Expr::Number(first.place, *value), tokens),
+        Lexeme::Word(value) => leaf(room, Expr::Word(first.place, *value), tokens),
+    }
 }
 
-/// The form that the first token begins.
+/// The expression that the first token begins.
 #[cycle(expression)]
-#[tactic(auto, using(crate::proofs::Equations::opens_end))]
-fn opened(alloc: Global, room: u32, tokens: &[Token]) -> Result<(Part, &[Token]), ParseFault>
-    requires some { 1 ≤ room }
-    requires small { room ≤ 1000 }
-    ensures { Gives found_of result (opened (reader (room - 1)) room tokens.now) }
+#[tactic(auto, unfolding(crate::specs::Reading::opened))]
+fn opened(alloc: Global, room: u32, tokens: &[Token]) -> Result<(Part, &[Token]), Halt>
+    requires small { room ≤ 1001 }
+    ensures small { IfOk result (λ x. x.0.depth ≤ 1000) }
+    ensures value { Reads found_of result (opened (reader (room - 1)) room tokens.now) }
 {
     let [first, rest @ ..] = tokens else {
-        return Err(ParseFault::Refused);
+        return Err(Halt::Wrong(0));
     };
-    match &first.lexeme {
-        Lexeme::Name(name) => variable(alloc, room, first.place, name, rest),
-        Lexeme::Mark(mark) => opened_by(alloc, room, first.place, *mark, rest),
-    }
+    let (part, rest) = begun(alloc, room, first, rest)?;
+    finish(part, rest)
 }
 
-/// The expression with an operator after it, behind the operator.
-#[cycle(expression)]
-fn followed_by(
+/// Bits of the expression before, behind the `[`.
+#[tactic(auto, unfolding(crate::specs::Reading::read_form))]
+fn selected(
     alloc: Global,
     room: u32,
+    left: Part,
+    place: Place,
+    tokens: &[Token],
+) -> Result<(Part, &[Token]), Halt>
+    ensures deeper { IfOk result (λ x. left.depth ≤ x.0.depth) }
+    ensures value { Reads found_of result (added (reader (room - 1)) (reader room 0) room (expr_tree left.expr) left.depth (selection place) tokens.now) }
+{
+    if room < 2 {
+        return Err(Halt::Deep(tokens.len()));
+    }
+    let (high, rest) = number_at(tokens)?;
+    let rest = expect(Mark::Colon, rest)?;
+    let (low, rest) = number_at(rest)?;
+    let rest = expect(Mark::CloseSquare, rest)?;
+    let depth = left.depth.max(1);
+    let expr = Expr::Select(
+        place,
+        Box::new(alloc, left.expr)?,
+        capped(high),
+        capped(low),
+    );
+    Ok((Part { expr, depth }, rest))
+}
+
+/// The right side of an implication, behind the arrow.
+#[cycle(expression)]
+#[tactic(auto, unfolding(crate::specs::Reading::read_form))]
+fn implication(
+    alloc: Global,
+    room: u32,
+    left: Part,
+    place: Place,
+    tokens: &[Token],
+) -> Result<(Part, &[Token]), Halt>
+    requires some { 1 ≤ room }
+    requires small { room ≤ 1001 }
+    ensures deeper { IfOk result (λ x. left.depth ≤ x.0.depth) }
+    ensures value { Reads found_of result (added (reader (room - 1)) (reader room 0) room (expr_tree left.expr) left.depth (implying place) tokens.now) }
+{
+    let (right, rest) = at(alloc, room - 1, 15, tokens)?;
+    let depth = left.depth.max(right.depth);
+    let premise = Box::new(alloc, left.expr)?;
+    let expr = Expr::Two(place, Op2::Implies, premise, Box::new(alloc, right.expr)?);
+    Ok((Part { expr, depth }, rest))
+}
+
+/// The branches of a condition, behind the `?`.
+#[cycle(expression)]
+#[tactic(auto, unfolding(crate::specs::Reading::read_form))]
+fn branches(
+    alloc: Global,
+    room: u32,
+    left: Part,
+    place: Place,
+    tokens: &[Token],
+) -> Result<(Part, &[Token]), Halt>
+    requires some { 1 ≤ room }
+    requires small { room ≤ 1001 }
+    ensures deeper { IfOk result (λ x. left.depth ≤ x.0.depth) }
+    ensures value { Reads found_of result (added (reader (room - 1)) (reader room 0) room (expr_tree left.expr) left.depth (branching place) tokens.now) }
+{
+    let (then, rest) = at(alloc, room - 1, 15, tokens)?;
+    let rest = expect(Mark::Colon, rest)?;
+    let (other, rest) = at(alloc, room - 1, 13, rest)?;
+    let depth = left.depth.max(then.depth).max(other.depth);
+    let condition = Box::new(alloc, left.expr)?;
+    let then = Box::new(alloc, then.expr)?;
+    let expr = Expr::If(place, condition, then, Box::new(alloc, other.expr)?);
+    Ok((Part { expr, depth }, rest))
+}
+
+/// The right operand of an operator of a level, behind the operator.
+#[cycle(expression)]
+#[tactic(auto, unfolding(crate::specs::Reading::read_form))]
+fn infix(
+    alloc: Global,
+    room: u32,
+    level: u32,
+    left: Part,
+    place: Place,
+    op: Op2,
+    tokens: &[Token],
+) -> Result<(Part, &[Token]), Halt>
+    requires some { 1 ≤ room }
+    requires small { room ≤ 1001 }
+    requires level { 1 ≤ level }
+    requires loosest { level ≤ 15 }
+    ensures deeper { IfOk result (λ x. left.depth ≤ x.0.depth) }
+    ensures value { Reads found_of result (added (reader (room - 1)) (reader room (level - 1)) room (expr_tree left.expr) left.depth (operand (two place op)) tokens.now) }
+{
+    let (right, rest) = at(alloc, room, level - 1, tokens)?;
+    let depth = left.depth.max(right.depth);
+    let operand = Box::new(alloc, left.expr)?;
+    let expr = Expr::Two(place, op, operand, Box::new(alloc, right.expr)?);
+    Ok((Part { expr, depth }, rest))
+}
+
+/// What an operator of a level adds to an expression, behind the operator.
+#[cycle(expression)]
+fn carried(
+    alloc: Global,
+    room: u32,
+    level: u32,
     left: Part,
     place: Place,
     mark: Mark,
     tokens: &[Token],
-) -> Result<(Part, &[Token]), ParseFault>
+) -> Result<(Part, &[Token]), Halt>
     requires some { 1 ≤ room }
-    requires small { room ≤ 1000 }
-    ensures deeper { IfOk result (λ x. (left.depth < x.0.depth) × (x.0.depth ≤ room)) }
-    ensures value { Gives found_of result (followed_by (reader (room - 1)) room (expr_tree left.expr) left.depth place mark tokens.now) }
+    requires small { room ≤ 1001 }
+    requires own { level_of (tail_by place mark) ≡ level }
+    requires level { 1 ≤ level }
+    requires loosest { level ≤ 15 }
+    ensures deeper { IfOk result (λ x. left.depth ≤ x.0.depth) }
+    ensures value { Reads found_of result (carried (reader (room - 1)) (reader room (level - 1)) room (expr_tree left.expr) left.depth (tail_by place mark) tokens.now) }
 {
     match mark {
-        Mark::Equals => {
-            let (right, rest) = at(alloc, room - 1, 9, tokens)?;
-            let depth = left.depth.max(right.depth);
-            let expr = Expr::Two(
-                place,
-                Op2::Eq,
-                Box::new(alloc, left.expr)?,
-                Box::new(alloc, right.expr)?,
-            );
-            finish(room, expr, depth, rest)
-        }
-        _ => Err(ParseFault::Refused),
+        Mark::OpenSquare => selected(alloc, room, left, place, tokens),
+        Mark::Question => branches(alloc, room, left, place, tokens),
+        Mark::Arrow => implication(alloc, room, left, place, tokens),
+        _ => match infix_of(mark) {
+            Some((_, op)) => infix(alloc, room, level, left, place, op, tokens),
+            None => Err(Halt::Wrong(tokens.len() + 1)),
+        },
     }
 }
 
-/// The expression with the operator after it.
+/// The expression with the operator of a level after it.
 #[cycle(expression)]
-#[tactic(auto, using(crate::proofs::Equations::follows_end, crate::proofs::Equations::follows_name))]
+#[tactic(auto, unfolding(crate::specs::Reading::followed))]
 fn followed(
     alloc: Global,
     room: u32,
+    level: u32,
     left: Part,
     tokens: &[Token],
-) -> Result<(Part, &[Token]), ParseFault>
+) -> Result<(Part, &[Token]), Halt>
     requires some { 1 ≤ room }
-    requires small { room ≤ 1000 }
-    ensures deeper { IfOk result (λ x. (left.depth < x.0.depth) × (x.0.depth ≤ room)) }
-    ensures value { Gives found_of result (followed (reader (room - 1)) room (expr_tree left.expr) left.depth tokens.now) }
+    requires small { room ≤ 1001 }
+    requires own { following_level tokens.now ≡ level }
+    requires level { 1 ≤ level }
+    requires loosest { level ≤ 15 }
+    ensures deeper { IfOk result (λ x. (left.depth < x.0.depth) × (x.0.depth ≤ 1000)) }
+    ensures value { Reads found_of result (followed (reader (room - 1)) (reader room (level - 1)) room (expr_tree left.expr) left.depth tokens.now) }
 {
     let [first, rest @ ..] = tokens else {
-        return Err(ParseFault::Refused);
+        return Err(Halt::Wrong(0));
     };
-    match first.lexeme {
-        Lexeme::Mark(mark) => followed_by(alloc, room, left, first.place, mark, rest),
-        Lexeme::Name(_) => Err(ParseFault::Refused),
-    }
+    let Lexeme::Mark(mark) = first.lexeme else {
+        return Err(Halt::Wrong(tokens.len()));
+    };
+    let (part, rest) = carried(alloc, room, level, left, first.place, mark, rest)?;
+    finish(part, rest)
 }
 
-/// An expression of a level or a tighter one, at most as deep as there is room for.
+/// The operators of a level after an expression.
 #[cycle(expression)]
-#[tactic(auto, using(crate::proofs::Equations::opens_here, crate::proofs::Equations::opens_tighter, crate::proofs::Equations::no_room, crate::proofs::Equations::no_level, crate::proofs::Equations::more_follows, crate::proofs::Equations::nothing_follows))]
-pub fn at(
+#[tactic(auto, using(crate::proofs::Equations::more_follows, crate::proofs::Equations::nothing_follows))]
+fn operators(
     alloc: Global,
     room: u32,
     level: u32,
+    part: Part,
     tokens: &[Token],
-) -> Result<(Part, &[Token]), ParseFault>
-    requires small { room ≤ 1000 }
+) -> Result<(Part, &[Token]), Halt>
+    requires some { 1 ≤ room }
+    requires small { room ≤ 1001 }
+    requires level { 1 ≤ level }
     requires loosest { level ≤ 15 }
-    ensures { Gives found_of result (reader room level tokens.now) }
+    ensures { Reads found_of result (going room level (record { tree = expr_tree part.expr; depth = part.depth; rest = tokens.now })) }
 {
-    if room == 0 || level == 0 {
-        return Err(ParseFault::Refused);
-    }
-    let (mut left, mut rest) = if opening_level(tokens) == level {
-        opened(alloc, room, tokens)?
-    } else {
-        at(alloc, room, level - 1, tokens)?
-    };
+    let (mut left, mut rest) = (part, tokens);
     'operators: while following_level(rest) == level {
-        (left, rest) = followed(alloc, room, left, rest)?;
+        (left, rest) = followed(alloc, room, level, left, rest)?;
+        if to_right(level) {
+            return Ok((left, rest));
+        }
     }
     Ok((left, rest))
+}
+
+/// An expression of a level or a tighter one, with room for so many nestings and itself.
+#[cycle(expression)]
+#[tactic(auto, using(crate::proofs::Equations::reads_up, crate::proofs::Equations::nothing_begins, crate::proofs::Equations::climb_more, crate::proofs::Equations::climb_end))]
+pub fn at(alloc: Global, room: u32, level: u32, tokens: &[Token]) -> Result<(Part, &[Token]), Halt>
+    requires small { room ≤ 1001 }
+    requires loosest { level ≤ 15 }
+    ensures { Reads found_of result (reader room level tokens.now) }
+{
+    let mut from = opening_level(tokens);
+    if from == 0 || from > level {
+        return Err(Halt::Wrong(tokens.len()));
+    }
+    let (mut left, mut rest) = opened(alloc, room, tokens)?;
+    'levels: while from < level {
+        (left, rest) = operators(alloc, room, from, left, rest)?;
+        from += 1;
+    }
+    operators(alloc, room, from, left, rest)
 }

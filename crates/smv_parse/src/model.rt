@@ -1,18 +1,68 @@
-ghost use Rattle.std.specs.Prelude.{◌≡◌, ◌≤◌, ◌++◌, ◌∷◌, [], codes, IfErr, IfOk, List, OnOk, Some, false, length, map, option_map, option_to_list};
+ghost use Rattle.std.specs.Prelude.{◌≡◌, ◌≤◌, ◌++◌, ◌∷◌, [], codes, IfErr, IfOk, List, OnOk, Some, ℕ, false, length, map, option_map, option_to_list};
 ghost use Rattle.std.specs.Str.{bytes_eq};
 ghost use Rattle.smv_tree.specs.Models.{Body, bodies, body_of, part_of};
-ghost use Rattle.smv_parse.specs.Answers.{Gives, IsMemory};
+ghost use Rattle.smv_parse.specs.Answers.{Gives, IsMemory, IsRefusal};
+ghost use Rattle.smv_parse.specs.Part.{found_of};
 ghost use Rattle.smv_parse.specs.Model.{SpellsModel};
-ghost use Rattle.smv_parse.specs.Parts.{after_semicolon, bodies_of, constraint_at, declaration_at, parts_of, program_of, step, step_mark, step_name};
+ghost use Rattle.smv_parse.specs.Parts.{after_semicolon, bodies_of, constraint_at, declaration_at, expect, found_at, name_at, parts_of, program_of, step, step_mark, step_name};
 ghost use Rattle.smv_parse.specs.StepView.{step_of};
-ghost use Rattle.smv_parse.specs.Tokens.{tokens_of};
 
-use crate::expression::{at, copy_name, expect, name_at};
+use crate::expression::at;
 use crate::fault::ParseFault;
+use crate::first_form::is_first;
+use crate::halt::Halt;
 use crate::mark::Mark;
+use crate::part::Part;
 use crate::token::{Lexeme, Token, scan};
-use smv_tree::{Item, Kind, Module, Name, Place, Program, Section, Ty, TypeSyntax};
+use smv_tree::{Expr, Item, Kind, Module, Name, Place, Program, Section, Ty, TypeSyntax};
 use std::alloc::{AllocError, Global};
+
+/// A second name of the same bytes.
+fn copy_name(alloc: Global, name: &Name) -> Result<Name, ParseFault>
+    ensures { Gives (λ n. n) result (Some name.now) }
+{
+    Ok(Name::from_vec(Vec::from_slice(alloc, name.as_slice())?))
+}
+
+/// The tokens after a mark, and its place.
+#[tactic(auto, unfolding(crate::specs::Reading::same_mark))]
+fn expect(mark: Mark, tokens: &[Token]) -> Result<(Place, &[Token]), ParseFault>
+    ensures refused { IfErr result IsRefusal }
+    ensures value { Gives (λ x. (x.0, x.1.now)) result (expect mark tokens.now) }
+{
+    let [first, rest @ ..] = tokens else {
+        return Err(ParseFault::Refused);
+    };
+    match first.lexeme {
+        Lexeme::Mark(found) if mark == found => Ok((first.place, rest)),
+        _ => Err(ParseFault::Refused),
+    }
+}
+
+/// A copy of the name at the front, its place, and the tokens after it.
+fn name_at(alloc: Global, tokens: &[Token]) -> Result<(Name, Place, &[Token]), ParseFault>
+    ensures { Gives (λ x. (x.0, x.1, x.2.now)) result (name_at tokens.now) }
+{
+    let [first, rest @ ..] = tokens else {
+        return Err(ParseFault::Refused);
+    };
+    match &first.lexeme {
+        Lexeme::Name(name) => Ok((copy_name(alloc, name)?, first.place, rest)),
+        _ => Err(ParseFault::Refused),
+    }
+}
+
+/// The expression at the front, and the tokens after it.
+#[tactic(auto, unfolding(crate::specs::Parts::found_at))]
+fn expression_at(alloc: Global, tokens: &[Token]) -> Result<(Part, &[Token]), ParseFault>
+    ensures { Gives found_of result (found_at tokens.now) }
+{
+    match at(alloc, 1001, 15, tokens) {
+        Ok(found) => Ok(found),
+        Err(Halt::NoMemory(error)) => Err(ParseFault::NoMemory(error)),
+        Err(_) => Err(ParseFault::Refused),
+    }
+}
 
 /// The tokens after a semicolon, if there is one.
 #[tactic(auto, unfolding(crate::specs::Reading::same_mark))]
@@ -55,7 +105,7 @@ fn constraint(
 ) -> Result<(Item, &[Token]), ParseFault>
     ensures { Gives (λ x. (part_of x.0, x.1.now)) result (constraint_at section place tokens.now) }
 {
-    let (part, rest) = at(alloc, 1000, 15, tokens)?;
+    let (part, rest) = expression_at(alloc, tokens)?;
     Ok((
         Item::Constraint(section, place, part.expr),
         after_semicolon(rest),
@@ -113,6 +163,8 @@ fn step(
     match &first.lexeme {
         Lexeme::Mark(mark) => step_mark(alloc, first.place, *mark, rest),
         Lexeme::Name(name) => step_name(alloc, declares, name, first.place, rest),
+        Lexeme::Number(_) => Err(ParseFault::Refused),
+        Lexeme::Word(_) => Err(ParseFault::Refused),
     }
 }
 
@@ -176,8 +228,15 @@ fn body(alloc: Global, tokens: &[Token]) -> Result<Module, ParseFault>
 fn program(alloc: Global, bytes: &[u8]) -> Result<Program, ParseFault>
     ensures { Gives bodies result (program_of bytes.now) }
 {
-    let tokens = scan(alloc, bytes)?;
-    let module = body(alloc, tokens.as_slice())?;
+    let scanned = scan(alloc, bytes)?;
+    if scanned.stop.is_some() {
+        return Err(ParseFault::Refused);
+    }
+    let tokens = scanned.tokens.as_slice();
+    if !is_first(tokens) {
+        return Err(ParseFault::Refused);
+    }
+    let module = body(alloc, tokens)?;
     let mut modules = Vec::new(alloc);
     modules.push(module)?;
     Ok(Program { modules })

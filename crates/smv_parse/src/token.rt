@@ -1,12 +1,13 @@
-ghost use Rattle.std.specs.Prelude.{◌≡◌, ◌≤◌, ◌++◌, IfErr, IfSome, OnOk, fold, length, true};
+ghost use Rattle.std.specs.Prelude.{◌≡◌, ◌+◌, ◌<◌, ◌≤◌, ◌^◌, ◌++◌, false, IfErr, IfOk, IfSome, None, OnOk, Some, fold, length, true};
 ghost use Rattle.std.specs.List.{prefix_len};
-ghost use Rattle.smv_parse.specs.Answers.{Gives, IsMemory};
-ghost use Rattle.smv_parse.specs.Tokens.{Fits, after, begins_name, continues_name, is_blank, is_in_line, is_named, piece_at, run_kind, token_of, tokens_of};
+ghost use Rattle.smv_parse.specs.Numbers.{at_most, is_decimal, radix_of, value_after, width_of};
+ghost use Rattle.smv_parse.specs.Scans.{scan_of};
+ghost use Rattle.smv_parse.specs.Tokens.{Fits, after, begins_name, continues_name, digit_piece, digits_at, goes_on, is_blank, is_in_line, is_named, number_at, piece_at, run_kind, scanned, start, token_of, word_at, word_of_width};
 
-use crate::fault::ParseFault;
-use crate::left_out::left_out;
+use crate::left_out::{LeftOut, left_out};
 use crate::mark::{Mark, symbol_at, word_of};
-use smv_tree::{Name, Place};
+use crate::number::{Base, greatest, is_decimal, is_digit_in, value_of, width_of, word_head};
+use smv_tree::{Name, Place, WordVal};
 use std::alloc::{AllocError, Global};
 
 /// What a token is.
@@ -14,6 +15,8 @@ use std::alloc::{AllocError, Global};
 pub enum Lexeme {
     Mark(Mark),
     Name(Name),
+    Number(u64),
+    Word(WordVal),
 }
 
 /// A token, and the place of its first byte.
@@ -23,12 +26,38 @@ pub struct Token {
     pub lexeme: Lexeme,
 }
 
-/// What a part of a text is: blanks or a comment, a symbol or a reserved word, or a name.
-#[derive(Clone, Copy, Debug, PartialEq, Eq)]
+/// What a part of a text is: blanks or a comment, a symbol or a reserved word, a name, a number or a
+/// word constant.
+#[derive(Clone, Copy, Debug)]
 pub enum Piece {
     Gap,
     Mark(Mark),
     Name,
+    Number(u64),
+    Word(WordVal),
+}
+
+/// Why a place in a text begins no token.
+#[derive(Clone, Copy, Debug)]
+pub enum Flaw {
+    /// A byte that begins no token.
+    BadByte,
+    /// A word constant that is not completed, or whose value does not fit its width.
+    BadWord,
+    /// A number from 2 to the 63rd on.
+    NumberRange,
+    /// A reserved word without use here.
+    LeftOut(LeftOut),
+    /// A name of more than 255 bytes.
+    LongName,
+}
+
+/// The tokens of a text up to its end or to what is no token, and the place of its end.
+#[derive(Debug, Drop)]
+pub struct ScannedText {
+    pub tokens: Vec<Token>,
+    pub stop: Option<(Place, Flaw)>,
+    pub end: Place,
 }
 
 fn is_blank(byte: u8) -> bool
@@ -67,48 +96,173 @@ fn line_len(bytes: &[u8]) -> usize
     bytes.iter().take_while(|b| **b != b'\n').count()
 }
 
+/// How many bytes at the front are decimal digits.
+#[tactic(auto, using(crate::proofs::Scanning::front_within))]
+fn decimal_len(bytes: &[u8]) -> usize
+    ensures within { result ≤ length bytes.now }
+    ensures len { result ≡ prefix_len is_decimal bytes.now }
+{
+    bytes.iter().take_while(|b| is_decimal(**b)).count()
+}
+
+/// How many bytes at the front are digits of the base or underscores.
+#[tactic(auto, using(crate::proofs::Scanning::front_within))]
+fn digits_len(base: Base, bytes: &[u8]) -> usize
+    ensures within { result ≤ length bytes.now }
+    ensures len { result ≡ prefix_len (goes_on base) bytes.now }
+{
+    let radix = base.radix();
+    bytes
+        .iter()
+        .take_while(|b| is_digit_in(radix, **b) || **b == b'_')
+        .count()
+}
+
 /// What a longest run of name bytes is.
 #[tactic(auto, unfolding(crate::specs::Tokens::run_kind))]
-fn run_kind(run: &[u8]) -> Option<Piece>
-    ensures short { IfSome result (λ k. is_named k ≡ true → length run.now ≤ 255) }
+fn run_kind(run: &[u8]) -> Result<Piece, Flaw>
+    ensures short { IfOk result (λ k. is_named k ≡ true → length run.now ≤ 255) }
     ensures kind { result ≡ run_kind run.now }
 {
     if let Some(mark) = word_of(run) {
-        return Some(Piece::Mark(mark));
+        return Ok(Piece::Mark(mark));
     }
-    if left_out(run).is_some() {
-        return None;
+    if let Some(word) = left_out(run) {
+        return Err(Flaw::LeftOut(word));
     }
     if run.len() <= 255 {
-        Some(Piece::Name)
+        Ok(Piece::Name)
     } else {
-        None
+        Err(Flaw::LongName)
     }
+}
+
+/// The word constant of a width, if its digits fit it.
+fn word_of_width(signed: bool, base: Base, digits: &[u8], width: Option<u8>) -> Result<Piece, Flaw>
+    requires { IfSome width (λ w. w ≤ 128) }
+    ensures plain { IfOk result (λ k. is_named k ≡ false) }
+    ensures kind { result ≡ word_of_width signed base digits.now width }
+{
+    let Some(width) = width else {
+        return Err(Flaw::BadWord);
+    };
+    if width == 0 {
+        return Err(Flaw::BadWord);
+    }
+    let Some(bits) = value_of(digits, base.radix(), greatest(width)) else {
+        return Err(Flaw::BadWord);
+    };
+    Ok(Piece::Word(WordVal::new(signed, width, bits)))
+}
+
+/// A word constant from its first digit on.
+#[tactic(auto, unfolding(crate::specs::Tokens::digits_at), using(crate::proofs::Scanning::front_some))]
+fn digits_at(
+    signed: bool,
+    base: Base,
+    len: usize,
+    written: &[u8],
+    bytes: &[u8],
+) -> Result<(usize, Piece), Flaw>
+    requires { len + length bytes.now < 2 ^ 64 }
+    ensures plain { IfOk result (λ k. is_named k.1 ≡ false) }
+    ensures some { IfOk result (λ k. len ≤ k.0) }
+    ensures within { IfOk result (λ k. k.0 ≤ len + length bytes.now) }
+    ensures kind { result ≡ digits_at signed base len written.now bytes.now }
+{
+    let Some(first) = bytes.first() else {
+        return Err(Flaw::BadWord);
+    };
+    if !is_digit_in(base.radix(), *first) {
+        return Err(Flaw::BadWord);
+    }
+    let count = digits_len(base, bytes);
+    let digits = &bytes[..count];
+    let piece = word_of_width(signed, base, digits, width_of(base, written, digits))?;
+    Ok((len + count, piece))
+}
+
+/// A word constant behind its head of a length.
+#[tactic(auto, unfolding(crate::specs::Tokens::word_at))]
+fn word_at(signed: bool, base: Base, len: usize, bytes: &[u8]) -> Result<(usize, Piece), Flaw>
+    requires { len + length bytes.now < 2 ^ 64 }
+    ensures plain { IfOk result (λ k. is_named k.1 ≡ false) }
+    ensures some { IfOk result (λ k. len ≤ k.0) }
+    ensures within { IfOk result (λ k. k.0 ≤ len + length bytes.now) }
+    ensures kind { result ≡ word_at signed base len bytes.now }
+{
+    let count = decimal_len(bytes);
+    let (written, rest) = bytes.split_at(count);
+    let [line, digits @ ..] = rest else {
+        return Err(Flaw::BadWord);
+    };
+    if *line != b'_' {
+        return Err(Flaw::BadWord);
+    }
+    digits_at(signed, base, len + count + 1, written, digits)
+}
+
+/// A number.
+#[tactic(auto, unfolding(crate::specs::Tokens::number_at))]
+fn number_at(bytes: &[u8]) -> Result<(usize, Piece), Flaw>
+    ensures plain { IfOk result (λ k. is_named k.1 ≡ false) }
+    ensures some { IfOk result (λ k. k.0 ≡ prefix_len is_decimal bytes.now) }
+    ensures within { IfOk result (λ k. k.0 ≤ length bytes.now) }
+    ensures kind { result ≡ number_at bytes.now }
+{
+    let len = decimal_len(bytes);
+    let Some(number) = value_of(&bytes[..len], 10, 9223372036854775807) else {
+        return Err(Flaw::NumberRange);
+    };
+    Ok((len, Piece::Number(number as u64)))
+}
+/// What begins with a digit.
+#[tactic(auto, unfolding(crate::specs::Tokens::digit_piece))]
+fn digit_piece(bytes: &[u8]) -> Result<(usize, Piece), Flaw>
+    requires { 1 ≤ prefix_len is_decimal bytes.now }
+    ensures plain { IfOk result (λ k. is_named k.1 ≡ false) }
+    ensures some { IfOk result (λ k. 1 ≤ k.0) }
+    ensures within { IfOk result (λ k. k.0 ≤ length bytes.now) }
+    ensures kind { result ≡ digit_piece bytes.now }
+{
+    if bytes.starts_with(b"0") {
+        if let Some((signed, base, len)) = word_head(&bytes[1..]) {
+            return word_at(signed, base, len, &bytes[len..]);
+        }
+    }
+    number_at(bytes)
 }
 
 /// The length and the kind of what the bytes begin with.
 #[tactic(auto, unfolding(crate::specs::Tokens::piece_at), using(crate::proofs::Scanning::front_some))]
-fn piece_at(bytes: &[u8]) -> Option<(usize, Piece)>
-    ensures fits { IfSome result (λ k. Fits bytes.now k) }
+fn piece_at(bytes: &[u8]) -> Result<(usize, Piece), Flaw>
+    ensures fits { IfOk result (λ k. Fits bytes.now k) }
     ensures kind { result ≡ piece_at bytes.now }
 {
-    let first = *bytes.first()?;
-    if is_blank(first) {
-        return Some((1, Piece::Gap));
+    let Some(first) = bytes.first() else {
+        return Err(Flaw::BadByte);
+    };
+    if is_blank(*first) {
+        return Ok((1, Piece::Gap));
     }
     if bytes.starts_with(b"--") {
-        return Some((line_len(bytes), Piece::Gap));
+        return Ok((line_len(bytes), Piece::Gap));
     }
     if bytes.starts_with(b"/--") {
-        return None;
+        return Err(Flaw::BadByte);
     }
-    if begins_name(first) {
+    if begins_name(*first) {
         let len = name_len(bytes);
         let kind = run_kind(&bytes[..len])?;
-        return Some((len, kind));
+        return Ok((len, kind));
     }
-    let mark = symbol_at(bytes)?;
-    Some((mark.text().len(), Piece::Mark(mark)))
+    if is_decimal(*first) {
+        return digit_piece(bytes);
+    }
+    let Some(mark) = symbol_at(bytes) else {
+        return Err(Flaw::BadByte);
+    };
+    Ok((mark.text().len(), Piece::Mark(mark)))
 }
 
 /// The place after a byte.
@@ -147,47 +301,56 @@ fn push_token(
     place: Place,
     piece: Piece,
     text: &[u8],
-) -> Result<(), ParseFault>
+) -> Result<(), AllocError>
     requires some { 1 ≤ length text.now }
     requires short { is_named piece ≡ true → length text.now ≤ 255 }
-    ensures ok { OnOk result (tokens.new.items ≡ tokens.old.items ++ token_of place piece text.now) }
-    ensures err { IfErr result IsMemory }
+    ensures { OnOk result (tokens.new.items ≡ tokens.old.items ++ token_of place piece text.now) }
 {
-    match piece {
-        Piece::Gap => Ok(()),
-        Piece::Mark(mark) => {
-            let lexeme = Lexeme::Mark(mark);
-            tokens.push(Token { place, lexeme })?;
-            Ok(())
-        }
-        Piece::Name => {
-            let lexeme = Lexeme::Name(Name::from_vec(Vec::from_slice(alloc, text)?));
-            tokens.push(Token { place, lexeme })?;
-            Ok(())
-        }
-    }
+    let lexeme = match piece {
+        Piece::Gap => return Ok(()),
+        Piece::Mark(mark) => Lexeme::Mark(mark),
+        Piece::Name => Lexeme::Name(Name::from_vec(Vec::from_slice(alloc, text)?)),
+        Piece::Number(number) => Lexeme::Number(number),
+        Piece::Word(word) => Lexeme::Word(word),
+    };
+    tokens.push(Token { place, lexeme })?;
+    Ok(())
 }
 
-/// The tokens of a text.
+/// The tokens of a text up to its end or to what is no token.
 ///
 /// # Errors
 ///
-/// `Refused` where something is no token, `NoMemory` where memory is refused.
-#[tactic(auto, using(crate::proofs::Scanning::no_piece, crate::proofs::Scanning::one_more, crate::proofs::Scanning::all_read))]
-pub fn scan(alloc: Global, bytes: &[u8]) -> Result<Vec<Token>, ParseFault>
-    ensures { Gives (λ v. v.items) result (tokens_of bytes.now) }
+/// `AllocError` where memory is refused.
+#[tactic(auto, using(crate::proofs::Scanning::no_piece, crate::proofs::Scanning::all_read))]
+pub fn scan(alloc: Global, bytes: &[u8]) -> Result<ScannedText, AllocError>
+    ensures tokens { IfOk result (λ s. scan_of s ≡ scanned bytes.now) }
+    ensures end { IfOk result (λ s. s.stop ≡ None → s.end ≡ fold after start bytes.now) }
 {
     let mut tokens = Vec::new(alloc);
     let mut place = Place { line: 1, column: 1 };
     let mut rest = bytes;
     while !rest.is_empty() {
-        let Some((len, piece)) = piece_at(rest) else {
-            return Err(ParseFault::Refused);
-        };
-        let (text, next) = rest.split_at(len);
-        push_token(alloc, &mut tokens, place, piece, text)?;
-        place = after_all(place, text);
-        rest = next;
+        match piece_at(rest) {
+            Ok((len, piece)) => {
+                let (text, next) = rest.split_at(len);
+                push_token(alloc, &mut tokens, place, piece, text)?;
+                place = after_all(place, text);
+                rest = next;
+            }
+            Err(flaw) => {
+                let stop = Some((place, flaw));
+                return Ok(ScannedText {
+                    tokens,
+                    stop,
+                    end: place,
+                });
+            }
+        }
     }
-    Ok(tokens)
+    Ok(ScannedText {
+        tokens,
+        stop: None,
+        end: place,
+    })
 }

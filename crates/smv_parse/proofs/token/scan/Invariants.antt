@@ -1,10 +1,12 @@
-use Rattle.std.proofs.Common.{◌≡◌, length}
-use Rattle.smv_parse.specs.Tokens.{start, tokens_from}
-use Rattle.smv_parse.proofs.Scanning.{with_front}
+use Rattle.std.proofs.Common.{◌≡◌, fold, length}
+use Rattle.smv_parse.specs.Tokens.{after, start, tokens_from, with_front}
 use Rattle.smv_parse.proofs.token.scan.Given as goal
 
 abbrev pub invariant-loop-rest : goal.invariant-loop-rest
-invariant-loop-rest l = with_front l.tokens.items (tokens_from l.place 0 l.rest) ≡ tokens_from start 0 l.bytes
+invariant-loop-rest l = record {
+  tokens : with_front l.tokens.items (tokens_from l.place 0 l.rest) ≡ tokens_from start 0 l.bytes;
+  place : fold after l.place l.rest ≡ fold after start l.bytes;
+}
 
 abbrev pub decreases-loop-rest : goal.decreases-loop-rest
 decreases-loop-rest l = length l.rest

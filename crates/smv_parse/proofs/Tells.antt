@@ -1,0 +1,157 @@
+-- What a result of reading tells of the tokens.
+use Rattle.std.proofs.Common.{◌≡◌, ◌≤◌, ◌+◌, ℕ, suc, Bool, true, false, cond, List, [], ◌∷◌, ◌++◌, length, Result, Ok, Err, refl, sym, ◌∙◌, ap, subst, arith}
+use Rattle.std.proofs.lemmas.List.{take_all}
+use denote.Enum.Bare.{same_true}
+use Rattle.smv_parse.specs.contracts.mark.Mark.{the_type}
+use Rattle.smv_tree.specs.declared.place.Place.{Place}
+use Rattle.smv_tree.specs.Trees.{Tree}
+use Rattle.smv_parse.specs.declared.mark.Mark.{Mark}
+use Rattle.smv_parse.specs.declared.token.Token.{Token}
+use Rattle.smv_parse.specs.declared.token.Lexeme.{Lexeme}
+use Rattle.smv_parse.specs.declared.token.Lexeme.TheVariants as lexeme
+use Rattle.smv_parse.specs.Forms.{Closes, Form, deepest}
+use Rattle.smv_parse.specs.Grammar.{Spells, SpellsForm, counted, marked}
+use Rattle.smv_parse.specs.Fronts.{Front, Point, TooDeep, before, inward}
+use Rattle.smv_parse.specs.Reading.{Found, Out, Stop, wrong, deep, expect, is_mark, number_at, number_in, same_mark}
+use Rattle.smv_parse.proofs.Tables.{Ended, Ends}
+use Rattle.smv_parse.proofs.Whole.{fronts}
+
+-- the tokens up to what is left have a property
+pub record Taken (S : List Token → Found → Type 0) (ts : List Token) (y : Found) : Type 0 where
+  pub used : List Token
+  pub split : ts ≡ used ++ y.rest
+  pub holds : S used y
+
+pub record Until (P : List Token → List Token → Type 0) (ts : List Token) (k : ℕ) : Type 0 where
+  pub used : List Token
+  pub rest : List Token
+  pub split : ts ≡ used ++ rest
+  pub count : length rest ≡ k
+  pub holds : P used rest
+
+pub record FrontOf (L : List Token → Point → Type 0) (us : List Token) : Type 0 where
+  pub point : Point
+  pub leads : L us point
+
+pub record DeepOf (n : ℕ) (L : List Token → Point → Type 0) (us rest : List Token) : Type 0 where
+  pub ahead : List Token
+  pub nestings : ℕ
+  pub level : ℕ
+  pub end : List Token
+  pub split : us ≡ ahead ++ end
+  pub leads : L ahead (before nestings level)
+  pub deep : TooDeep (n + nestings) level end rest
+
+-- What is read is so; where something cannot stand the tokens before it are a front; where it is too
+-- deep the tokens lead there. This is within so many nestings.
+unfoldable pub Tells : ℕ → (List Token → Found → Type 0) → (List Token → Point → Type 0) → List Token → Out → Type 0
+Tells n S L ts (Ok y) = Taken S ts y
+Tells n S L ts (Err (wrong k)) = Until (λ us rest. FrontOf L us) ts k
+Tells n S L ts (Err (deep k)) = Until (λ us rest. DeepOf n L us rest) ts k
+
+-- the same of the tokens behind others
+pub onward : (n : ℕ) (S S2 : List Token → Found → Type 0) (L L2 : List Token → Point → Type 0) (pre : List Token → List Token) → ((us vs : List Token) → pre (us ++ vs) ≡ pre us ++ vs) → ((us : List Token) (y : Found) → S us y → S2 (pre us) y) → ((us : List Token) (q : Point) → L us q → L2 (pre us) q) → (ts : List Token) (out : Out) → Tells n S L ts out → Tells n S2 L2 (pre ts) out
+unfolding Tells
+onward n S S2 L L2 pre over s l ts (Ok y) h = record { used = pre h.used; split = ap pre h.split ∙ over h.used y.rest; holds = s h.used y h.holds }
+onward n S S2 L L2 pre over s l ts (Err (wrong k)) h =
+    let f = h.holds in
+    record { used = pre h.used; rest = h.rest; split = ap pre h.split ∙ over h.used h.rest; count = h.count; holds = record { point = f.point; leads = l h.used f.point f.leads } }
+onward n S S2 L L2 pre over s l ts (Err (deep k)) h =
+    let f = h.holds in
+    record { used = pre h.used; rest = h.rest; split = ap pre h.split ∙ over h.used h.rest; count = h.count; holds = record { ahead = pre f.ahead; nestings = f.nestings; level = f.level; end = f.end; split = ap pre f.split ∙ over f.ahead f.end; leads = l f.ahead (before f.nestings f.level) f.leads; deep = f.deep } }
+
+-- the same of what stops, seen from one nesting further out
+pub inner : (n : ℕ) (S S2 : List Token → Found → Type 0) (L L2 : List Token → Point → Type 0) → ((us : List Token) (q : Point) → L us q → L2 us (inward q)) → (ts : List Token) (s : Stop) → Tells (suc n) S L ts (Err s) → Tells n S2 L2 ts (Err s)
+unfolding Tells
+inner n S S2 L L2 l ts (wrong k) h =
+    let f = h.holds in
+    record { used = h.used; rest = h.rest; split = h.split; count = h.count; holds = record { point = inward f.point; leads = l h.used f.point f.leads } }
+inner n S S2 L L2 l ts (deep k) h =
+    let f = h.holds in
+    let e : suc n + f.nestings ≡ n + suc f.nestings = omega arith in
+    let P : ℕ → Type 0 = λ m. TooDeep m f.level f.end h.rest in
+    record { used = h.used; rest = h.rest; split = h.split; count = h.count; holds = record { ahead = f.ahead; nestings = suc f.nestings; level = f.level; end = f.end; split = f.split; leads = l f.ahead (before f.nestings f.level) f.leads; deep = subst P e f.deep } }
+
+-- what stops, whatever would have been read
+pub stopped : (n : ℕ) (S S2 : List Token → Found → Type 0) (L : List Token → Point → Type 0) (ts : List Token) (s : Stop) → Tells n S L ts (Err s) → Tells n S2 L ts (Err s)
+unfolding Tells
+stopped n S S2 L ts (wrong k) h = h
+stopped n S S2 L ts (deep k) h = h
+
+-- the tokens behind a front cannot stand there
+pub stuck : (n : ℕ) (S : List Token → Found → Type 0) (L : List Token → Point → Type 0) (us rest : List Token) (q : Point) → L us q → Tells n S L (us ++ rest) (Err (wrong (length rest)))
+unfolding Tells
+stuck n S L us rest q h = record { used = us; rest = rest; split = refl; count = refl; holds = record { point = q; leads = h } }
+
+-- it is too deep behind tokens
+pub sunk : (n : ℕ) (S : List Token → Found → Type 0) (L : List Token → Point → Type 0) (us rest : List Token) (l : ℕ) → L [] (before 0 l) → TooDeep n l us rest → Tells n S L (us ++ rest) (Err (deep (length rest)))
+unfolding Tells
+sunk n S L us rest l h t =
+    let e : n ≡ n + 0 = omega arith in
+    let P : ℕ → Type 0 = λ m. TooDeep m l us rest in
+    record { used = us; rest = rest; split = refl; count = refl; holds = record { ahead = []; nestings = 0; level = l; end = us; split = refl; leads = h; deep = subst P e t } }
+
+pub taken : (n : ℕ) (S : List Token → Found → Type 0) (L : List Token → Point → Type 0) (ts : List Token) (y : Found) → Taken S ts y → Tells n S L ts (Ok y)
+unfolding Tells
+taken n S L ts y h = h
+
+pub took : (n : ℕ) (S : List Token → Found → Type 0) (L : List Token → Point → Type 0) (ts : List Token) (y : Found) → Tells n S L ts (Ok y) → Taken S ts y
+unfolding Tells
+took n S L ts y h = h
+
+-- what spells an expression is a front of one
+pub whole_front : {l : ℕ} {ts : List Token} {x : Tree} {d : ℕ} → Spells l ts x d → Front l ts
+whole_front {l} {ts} s = let P : List Token → Type 0 = λ us. Front l us in subst P (take_all (length ts) ts (omega arith)) (fronts s (length ts))
+
+-- what a mark at the front tells
+unfoldable pub Expected : Mark → List Token → Result (List Token) Stop → Type 0
+Expected m ts (Ok us) = (p : Place) × (ts ≡ marked p m ∷ us)
+Expected m ts (Err s) = (s ≡ wrong (length ts))
+
+pub is_mark_true : (m : Mark) (x : Lexeme) → is_mark m x ≡ true → x ≡ lexeme.Mark m
+unfolding same_mark
+is_mark_true m (lexeme.Mark n) e = ap lexeme.Mark (sym (same_true the_type tt m n e))
+is_mark_true m (lexeme.Name n) e = absurd (cc)
+is_mark_true m (lexeme.Number n) e = absurd (cc)
+is_mark_true m (lexeme.Word w) e = absurd (cc)
+
+pub expected : (m : Mark) (ts : List Token) → Expected m ts (expect m ts)
+unfolding Expected
+expected m [] = refl
+expected m (t ∷ ts) = by_test (is_mark m t.lexeme) refl where
+  by_test : (b : Bool) → is_mark m t.lexeme ≡ b → Expected m (t ∷ ts) (cond b (Ok ts) (Err (wrong (length (t ∷ ts)))))
+  by_test true e = (t.place, ap (λ (y : Lexeme). record { place = t.place; lexeme = y } ∷ ts) (is_mark_true m t.lexeme e))
+  by_test false e = refl
+
+-- what a number at the front tells
+unfoldable pub Counted : List Token → Result (ℕ × List Token) Stop → Type 0
+Counted ts (Ok x) = (p : Place) × (ts ≡ counted p x.0 ∷ x.1)
+Counted ts (Err s) = (s ≡ wrong (length ts))
+
+counted_in : (p : Place) (x : Lexeme) (ts : List Token) → Counted (record { place = p; lexeme = x } ∷ ts) (number_in x ts)
+unfolding Counted
+counted_in p (lexeme.Number n) ts = (p, refl)
+counted_in p (lexeme.Mark m) ts = refl
+counted_in p (lexeme.Name n) ts = refl
+counted_in p (lexeme.Word w) ts = refl
+
+pub numbered : (ts : List Token) → Counted ts (number_at ts)
+unfolding Counted
+numbered [] = refl
+numbered (t ∷ ts) = counted_in t.place t.lexeme ts
+
+-- An expression of a level was read: no operator of the level follows; or at least none that would
+-- continue it.
+pub record Reads (l : ℕ) (us : List Token) (y : Found) : Type 0 where
+  pub spelled : Spells l us y.tree y.depth
+  pub small : y.depth ≤ deepest
+  pub ended : Ends l y.rest
+
+pub record Opens (l : ℕ) (us : List Token) (y : Found) : Type 0 where
+  pub spelled : Spells l us y.tree y.depth
+  pub small : y.depth ≤ deepest
+  pub closed : Closes l y.rest
+
+pub record ReadsForm (f : Form) (d : ℕ) (us : List Token) (y : Found) : Type 0 where
+  pub spelled : SpellsForm f d us y.tree y.depth
+  pub ended : Ended f y.rest
