@@ -1,0 +1,5 @@
+pub mod Literals
+pub mod Tables
+pub mod Trails
+pub mod Logs
+pub mod Looks

