@@ -3,3 +3,5 @@ pub mod Tables
 pub mod Trails
 pub mod Logs
 pub mod Looks
+pub mod Marks
+pub mod Walks

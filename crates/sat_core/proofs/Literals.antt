@@ -1,5 +1,5 @@
 -- Literals, their negations, and lists of them.
-use Rattle.std.proofs.Common.{◌≡◌, ◌≢◌, ℕ, ◌+◌, ◌*◌, Bool, true, false, not, cond, eqb, ◌||◌, ◌⊎◌, inl, inr, List, [], ◌∷◌, refl, ap, sym, ◌∙◌, arith}
+use Rattle.std.proofs.Common.{◌≡◌, ◌≢◌, ℕ, ◌+◌, ◌*◌, Bool, true, false, not, cond, eqb, ◌||◌, ◌⊎◌, inl, inr, List, [], ◌∷◌, ◌++◌, refl, ap, sym, subst, ◌∙◌, arith}
 use Rattle.std.specs.List.{AllByRecursion}
 use Rattle.std.proofs.lemmas.Bool.{false≢true, eqb-true, eq-eqb, or_right, or_cases}
 use Rattle.sat_log.specs.Literal.{Literal, negated, packed}
@@ -77,3 +77,29 @@ pub apart_not_among : (set : List Literal) (l : Literal) → AllByRecursion (λ 
 apart_not_among [] l h m = m
 apart_not_among (k ∷ set) l h (inl e) = h.0 (ap (λ (x : Literal). x.var) e)
 apart_not_among (k ∷ set) l h (inr m) = apart_not_among set l h.1 m
+
+-- What stands in a list that is longer.
+
+pub among_append : (front back : List Literal) (l : Literal) → Among back l → Among (front ++ back) l
+among_append [] back l m = m
+among_append (x ∷ front) back l m = inr (among_append front back l m)
+
+pub among_front : (front back : List Literal) (l : Literal) → Among front l → Among (front ++ back) l
+among_front [] back l m = absurd m
+among_front (x ∷ front) back l (inl e) = inl e
+among_front (x ∷ front) back l (inr m) = inr (among_front front back l m)
+
+pub among_push : (front : List Literal) (x l : Literal) → Among (front ++ x ∷ []) l → Among front l ⊎ (x ≡ l)
+among_push [] x l (inl e) = inr e
+among_push [] x l (inr m) = absurd m
+among_push (y ∷ front) x l (inl e) = inl (inl e)
+among_push (y ∷ front) x l (inr m) = by_rest (among_push front x l m)
+  where
+    by_rest : Among front l ⊎ (x ≡ l) → Among (y ∷ front) l ⊎ (x ≡ l)
+    by_rest (inl m) = inl (inr m)
+    by_rest (inr e) = inr e
+
+pub All-among : (P : Literal → Type 0) (xs : List Literal) (l : Literal) → AllByRecursion P xs → Among xs l → P l
+All-among P [] l h m = absurd m
+All-among P (x ∷ xs) l h (inl e) = subst P e h.0
+All-among P (x ∷ xs) l h (inr m) = All-among P xs l h.1 m

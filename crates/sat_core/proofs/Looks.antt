@@ -11,7 +11,7 @@ use Rattle.sat_log.specs.declared.line.LogLine.{LogLine}
 use Rattle.sat_log.specs.Checking.{AreUpTo}
 use Rattle.sat_core.specs.Trail.{literals, top, places}
 use Rattle.sat_core.specs.Units.{IsQuiet, AreQuiet, IsReason, IsTrail, AddsImplied}
-use Rattle.sat_core.proofs.Literals.{unset_apart}
+use Rattle.sat_core.proofs.Literals.{unset_apart, among_append, among_front, among_push, All-among}
 use Rattle.sat_core.proofs.Logs.{All-append, named_up_to, clauses_more}
 use Rattle.sat_core.specs.declared.trail.Entry.{Entry}
 
@@ -27,30 +27,6 @@ IsPassed log variables old new true = (length old < length new) × (length new �
 IsPassed log variables old new false = (new ≡ old) × AreQuiet (literals new) (clauses log)
 
 -- A look at a clause.
-
-among_append : (front back : List Literal) (l : Literal) → Among back l → Among (front ++ back) l
-among_append [] back l m = m
-among_append (x ∷ front) back l m = inr (among_append front back l m)
-
-among_front : (front back : List Literal) (l : Literal) → Among front l → Among (front ++ back) l
-among_front [] back l m = absurd m
-among_front (x ∷ front) back l (inl e) = inl e
-among_front (x ∷ front) back l (inr m) = inr (among_front front back l m)
-
-among_push : (front : List Literal) (x l : Literal) → Among (front ++ x ∷ []) l → Among front l ⊎ (x ≡ l)
-among_push [] x l (inl e) = inr e
-among_push [] x l (inr m) = absurd m
-among_push (y ∷ front) x l (inl e) = inl (inl e)
-among_push (y ∷ front) x l (inr m) = by_rest (among_push front x l m)
-  where
-    by_rest : Among front l ⊎ (x ≡ l) → Among (y ∷ front) l ⊎ (x ≡ l)
-    by_rest (inl m) = inl (inr m)
-    by_rest (inr e) = inr e
-
-All-among : (P : Literal → Type 0) (xs : List Literal) (l : Literal) → AllByRecursion P xs → Among xs l → P l
-All-among P [] l h m = absurd m
-All-among P (x ∷ xs) l h (inl e) = subst P e h.0
-All-among P (x ∷ xs) l h (inr m) = All-among P xs l h.1 m
 
 apart_behind : (front back : List Literal) (x u : Literal) → HasDistinctVariables (front ++ x ∷ back) → Among front u → u ≢ x
 apart_behind [] back x u d m e = m

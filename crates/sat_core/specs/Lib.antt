@@ -5,3 +5,4 @@ pub mod Verdicts
 pub mod Trail
 pub mod Units
 pub mod Passes
+pub mod Analysis
