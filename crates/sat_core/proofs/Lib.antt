@@ -5,3 +5,5 @@ pub mod Logs
 pub mod Looks
 pub mod Marks
 pub mod Walks
+pub mod Levels
+pub mod Visits

@@ -1,12 +1,12 @@
 -- Marks of variables, and how many entries of a level have one.
-use Rattle.std.proofs.Common.{◌≡◌, ◌≢◌, ℕ, zero, suc, ◌+◌, ◌-◌, ◌<◌, ◌≤◌, Bool, true, false, cond, eqb, ◌&&◌, ◌⊎◌, inl, inr, List, [], ◌∷◌, ◌++◌, length, take, drop, get_or, set, refl, ap, sym, subst, ◌∙◌, get_or-set_same, get_or-set_other, arith}
+use Rattle.std.proofs.Common.{◌≡◌, ◌≢◌, ℕ, zero, suc, ◌+◌, ◌-◌, ◌<◌, Bool, true, false, cond, eqb, ◌&&◌, ◌⊎◌, inl, inr, List, [], ◌∷◌, ◌++◌, length, take, drop, get_or, set, refl, ap, sym, subst, ◌∙◌, get_or-set_same, get_or-set_other, arith}
 use Rattle.std.specs.List.{AllByRecursion}
-use Rattle.std.proofs.lemmas.Bool.{cases_eq, eq-eqb, eqb-false, ne_eqb, and_right}
+use Rattle.std.proofs.lemmas.Bool.{cases_eq}
 use Rattle.std.proofs.lemmas.List.{take_more}
 use Rattle.sat_log.specs.Literal.{Literal, negated}
 use Rattle.sat_log.specs.Clause.{Among, HasDistinctVariables}
 use Rattle.sat_core.specs.Trail.{literals, bottom}
-use Rattle.sat_core.specs.Analysis.{is_marked, IsMarked, IsUnmarked, marked_at, HasOther, MarksOthers, AreFalseIn}
+use Rattle.sat_core.specs.Analysis.{is_marked, IsMarked, marked_at, HasOther, MarksOthers}
 use Rattle.sat_core.proofs.Literals.{among_append, among_front, among_push, All-among}
 use Rattle.sat_core.specs.declared.trail.Entry.{Entry}
 

@@ -1,29 +1,29 @@
 -- The walk back along the trail: an entry is passed over, its negation is kept, or it is resolved away.
-use Rattle.std.proofs.Common.{◌≡◌, ◌≢◌, ℕ, ◌+◌, ◌*◌, ◌<◌, ◌≤◌, Bool, true, false, ◌⊎◌, inl, inr, List, [], ◌∷◌, ◌++◌, length, map, get_or, set, refl, ap, sym, subst, ◌∙◌, get_or-set_same, length-set, arith}
-use Rattle.std.specs.Prelude.{Option, Some}
+use Rattle.std.proofs.Common.{◌≡◌, ◌≢◌, ℕ, ◌+◌, ◌<◌, ◌≤◌, Bool, true, false, ◌⊎◌, inl, inr, List, [], ◌∷◌, ◌++◌, length, map, set, refl, ap, sym, subst, ◌∙◌, get_or-set_same, length-set, arith}
+use Rattle.std.specs.Prelude.{Some}
 use Rattle.std.specs.List.{AllByRecursion}
-use Rattle.std.proofs.lemmas.Bool.{cases_eq, cases_lt, false≢true}
+use Rattle.std.proofs.lemmas.Bool.{cases_lt, false≢true}
 use Rattle.std.proofs.lemmas.List.{length_push, set_past, get_or_past}
 use Rattle.sat_log.specs.Literal.{Literal, negated}
 use Rattle.sat_log.specs.Clause.{Among, IsFalsified, IsUnset, IsUnit, HasDistinctVariables}
-use Rattle.sat_log.specs.Accepted.{clause_at, Refutes}
-use Rattle.sat_log.specs.Learned.{StandsInSome, EachIsUsed}
+use Rattle.sat_log.specs.Accepted.{clause_at}
+use Rattle.sat_log.specs.Learned.{StandsInSome}
 use Rattle.sat_log.specs.declared.line.LogLine.{LogLine}
 use Rattle.sat_core.specs.Trail.{literals}
 use Rattle.sat_core.specs.Units.{Implies}
 use Rattle.sat_core.specs.Analysis.{Analyzed, room, is_marked, IsMarked, IsUnmarked, HasVariable, HasOther, MarksOthers, AreFalseIn, Explains, IsBase, IsAnalysis}
-use Rattle.sat_core.proofs.Literals.{negated-negated, apart_not_among, among_append, among_front, among_push, All-among}
+use Rattle.sat_core.proofs.Literals.{negated-negated, among_append, among_front, among_push, All-among}
 use Rattle.sat_core.proofs.Logs.{All-append, All-front, All-back}
 use Rattle.sat_core.proofs.Marks.{other_marked}
 use Rattle.sat_core.specs.declared.trail.Entry.{Entry}
 
 -- Lists of literals and of entries.
 
-All-map : {A : Type 0} (P Q : A → Type 0) (xs : List A) → ((x : A) → P x → Q x) → AllByRecursion P xs → AllByRecursion Q xs
+pub All-map : {A : Type 0} (P Q : A → Type 0) (xs : List A) → ((x : A) → P x → Q x) → AllByRecursion P xs → AllByRecursion Q xs
 All-map P Q [] f h = tt
 All-map P Q (x ∷ xs) f h = (f x h.0, All-map P Q xs f h.1)
 
-All-both : {A : Type 0} (P Q : A → Type 0) (xs : List A) → AllByRecursion P xs → AllByRecursion Q xs → AllByRecursion (λ x. P x × Q x) xs
+pub All-both : {A : Type 0} (P Q : A → Type 0) (xs : List A) → AllByRecursion P xs → AllByRecursion Q xs → AllByRecursion (λ x. P x × Q x) xs
 All-both P Q [] h k = tt
 All-both P Q (x ∷ xs) h k = ((h.0, k.0), All-both P Q xs h.1 k.1)
 
@@ -33,10 +33,10 @@ All-with P Q [] all inside f h = tt
 All-with P Q (e ∷ part) all inside f h =
     (f e (inside e.literal (inl refl)) h.0, All-with P Q part all (λ l m. inside l (inr m)) f h.1)
 
-All-entries : (P Q : Entry → Type 0) (entries : List Entry) → ((f : Entry) → Among (literals entries) f.literal → P f → Q f) → AllByRecursion P entries → AllByRecursion Q entries
+pub All-entries : (P Q : Entry → Type 0) (entries : List Entry) → ((f : Entry) → Among (literals entries) f.literal → P f → Q f) → AllByRecursion P entries → AllByRecursion Q entries
 All-entries P Q entries f h = All-with P Q entries (literals entries) (λ l m. m) f h
 
-All-from : (Q : Literal → Type 0) (xs : List Literal) → ((l : Literal) → Among xs l → Q l) → AllByRecursion Q xs
+pub All-from : (Q : Literal → Type 0) (xs : List Literal) → ((l : Literal) → Among xs l → Q l) → AllByRecursion Q xs
 All-from Q [] f = tt
 All-from Q (x ∷ xs) f = (f x (inl refl), All-from Q xs (λ l m. f l (inr m)))
 

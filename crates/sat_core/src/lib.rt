@@ -6,6 +6,7 @@
 #![tactic(auto)]
 
 mod analysis;
+mod analyze;
 mod budget;
 mod propagate;
 mod sbits;

@@ -102,7 +102,8 @@ impl Trail {
     /// The entry that was made when there were `i` others.
     pub(crate) fn entry(&self, i: usize) -> Entry
         requires { i < length self.now.entries }
-        ensures { bottom (i + 1) self.now.entries ≡ result ∷ bottom i self.now.entries }
+        ensures entry { bottom (i + 1) self.now.entries ≡ result ∷ bottom i self.now.entries }
+        ensures exists { result.literal.var ≤ self.now.variables }
     {
         let literal = self.trail[i];
         let var = literal.var() as usize;

@@ -1,11 +1,9 @@
-use Rattle.std.proofs.Common.{◌≡◌, ◌+◌, ◌<◌, ◌≤◌, ℕ, Bool, true, List, length, set, get_or, cond, eqb, take, ap, sym, subst, ◌∙◌, false, arith}
+use Rattle.std.proofs.Common.{◌≡◌, ◌+◌, ◌<◌, ◌≤◌, ℕ, Bool, true, length, cond, eqb, ap, sym, subst, ◌∙◌, false, arith}
 use Rattle.std.specs.List.{AllByRecursion}
 use Rattle.std.proofs.lemmas.Bool.{iff_false, eq-eqb, ne_eqb}
-use Rattle.std.proofs.lemmas.List.{get_or_default, length-set}
-use Rattle.sat_log.specs.Literal.{Literal, negated}
-use Rattle.sat_log.specs.Clause.{Among, HasDistinctVariables}
-use Rattle.sat_core.specs.Trail.{literals, bottom}
-use Rattle.sat_core.specs.Analysis.{is_marked, IsMarked, marked_at, MarksOthers, AreFalseIn}
+use Rattle.sat_log.specs.Clause.{Among}
+use Rattle.sat_core.specs.Trail.{literals}
+use Rattle.sat_core.specs.Analysis.{is_marked, IsMarked}
 use Rattle.sat_core.proofs.Marks.{marks_same, marks_one, marked_more_in}
 use Rattle.sat_core.proofs.Literals.{All-among}
 use Rattle.sat_core.proofs.Looks.{stands_at}

@@ -28,10 +28,15 @@ index-requires-2 c =
     let size = c.self.invariant.reasons_size in
     omega (arith, c.self.inside.reasons.ok.0)
 
-pub returns : goal.returns
-returns c =
+pub returns-clause-exists : goal.returns-clause-exists
+returns-clause-exists c =
+    let upper = below (goal.at.returns-clause-exists c).After-var-var in
+    subst (λ (v : Trailed). c.index-literal.result.now.var ≤ v.variables) c.self.view_is (subst (λ v. v ≤ c.self.inside.variables) c.var-var.ensures.value upper)
+
+pub returns-clause-entry : goal.returns-clause-entry
+returns-clause-entry c =
     let t = c.self.inside in
-    let upper = below (goal.at.returns c).After-var-var in
+    let upper = below (goal.at.returns-clause-entry c).After-var-var in
     let count : length c.args.self.now.entries ≡ length t.trail.items =
     ap (λ (v : Trailed). length v.entries) (sym c.self.view_is) ∙ length-map (reverse t.trail.items) (entry_of t.levels.items t.reasons.items) ∙ length-reverse t.trail.items in
     let i_in : c.args.i < length t.trail.items = omega (arith, c.requires, count) in

@@ -1,0 +1,254 @@
+-- Levels of a trail, and the walk to the first unique implication point.
+use Rattle.std.proofs.Common.{◌≡◌, ◌≢◌, ℕ, ◌+◌, ◌<◌, ◌≤◌, Bool, true, false, cond, eqb, ltb, ◌&&◌, ◌⊎◌, inl, inr, List, [], ◌∷◌, ◌++◌, set, refl, ap, sym, subst, ◌∙◌, arith}
+use Rattle.std.specs.Prelude.{Option, None, Some}
+use Rattle.std.specs.List.{AllByRecursion}
+use Rattle.std.proofs.lemmas.Bool.{cases_eq, cases_lt, eq-eqb, ne_eqb, lt-ltb, le-ltb}
+use Rattle.sat_log.specs.Literal.{Literal, negated}
+use Rattle.sat_log.specs.Clause.{Among, IsUnset, IsFalsified, HasDistinctVariables}
+use Rattle.sat_log.specs.declared.line.LogLine.{LogLine}
+use Rattle.sat_core.specs.Trail.{literals, top, before}
+use Rattle.sat_core.specs.Units.{HasCause, IsTrail, IsQuiet}
+use Rattle.sat_core.specs.Analysis.{is_marked, IsMarked, IsUnmarked, marked_at, IsAsserting}
+use Rattle.sat_core.proofs.Literals.{negated-negated, apart_not_among, All-among}
+use Rattle.sat_core.proofs.Logs.{All-append, All-back}
+use Rattle.sat_core.proofs.Marks.{marked_other}
+use Rattle.sat_core.proofs.Trails.{consistent}
+use Rattle.sat_core.proofs.Walks.{All-map, All-both}
+use Rattle.sat_core.specs.declared.trail.Entry.{Entry}
+
+-- The entries of a trail.
+
+pub literals_apart : (entries : List Entry) (v : ℕ) → AllByRecursion (λ f. f.literal.var ≢ v) entries → AllByRecursion (λ k. k.var ≢ v) (literals entries)
+literals_apart [] v h = tt
+literals_apart (e ∷ entries) v h = (h.0, literals_apart entries v h.1)
+
+pub trail_distinct : (log : List LogLine) (entries : List Entry) → IsTrail log entries → HasDistinctVariables (literals entries)
+trail_distinct log [] t = tt
+trail_distinct log (e ∷ entries) t =
+    (literals_apart entries e.literal.var t.0.fresh, trail_distinct log entries t.1)
+
+pub trail_back : (log : List LogLine) (above entries : List Entry) → IsTrail log (above ++ entries) → IsTrail log entries
+trail_back log [] entries t = t
+trail_back log (e ∷ above) entries t = trail_back log above entries t.1
+
+-- the cause of an entry says how its level follows
+cause_level : (log : List LogLine) (entries : List Entry) (l : Literal) (level : ℕ) (reason : Option ℕ) → HasCause log entries l level reason → top entries ≤ level
+cause_level log entries l level None c = omega (arith, c)
+cause_level log entries l level (Some id) c = omega (arith, c.0)
+
+-- no entry is of a later level than the latest
+pub top_most : (log : List LogLine) (entries : List Entry) → IsTrail log entries → AllByRecursion (λ f. f.level ≤ top entries) entries
+top_most log [] t = tt
+top_most log (e ∷ entries) t =
+    let below = cause_level log entries e.literal e.level e.reason t.0.cause in
+    (omega arith, All-map (λ f. f.level ≤ top entries) (λ f. f.level ≤ e.level) entries (λ f h. omega arith) (top_most log entries t.1))
+
+-- What holds of all entries holds of those before a level.
+pub All-before : (P : Entry → Type 0) (level : ℕ) (entries : List Entry) → AllByRecursion P entries → AllByRecursion P (before level entries)
+All-before P level [] h = tt
+All-before P level (e ∷ entries) h = by_level (ltb e.level level) (All-before P level entries h.1)
+  where
+    by_level : (b : Bool) → AllByRecursion P (before level entries) → AllByRecursion P (cond b (e ∷ entries) (before level entries))
+    by_level true rest = h
+    by_level false rest = rest
+
+-- and these are of earlier levels
+pub before_lower : (log : List LogLine) (level : ℕ) (entries : List Entry) → IsTrail log entries → AllByRecursion (λ f. f.level < level) (before level entries)
+before_lower log level [] t = tt
+before_lower log level (e ∷ entries) t =
+    by_level (cases_lt e.level level) (before_lower log level entries t.1)
+  where
+    by_level : (e.level < level) ⊎ (level ≤ e.level) → AllByRecursion (λ f. f.level < level) (before level entries) → AllByRecursion (λ f. f.level < level) (before level (e ∷ entries))
+    by_level (inl h) rest =
+        subst (AllByRecursion (λ f. f.level < level)) (sym (ap (λ (b : Bool). cond b (e ∷ entries) (before level entries)) (lt-ltb e.level level h)))
+        (All-map (λ f. f.level ≤ e.level) (λ f. f.level < level) (e ∷ entries) (λ f k. omega arith) (top_most log (e ∷ entries) t))
+    by_level (inr h) rest =
+        subst (AllByRecursion (λ f. f.level < level)) (sym (ap (λ (b : Bool). cond b (e ∷ entries) (before level entries)) (le-ltb e.level level h))) rest
+
+among_back : (above : List Entry) (e : Entry) (rest : List Entry) → Among (literals (above ++ e ∷ rest)) e.literal
+among_back [] e rest = inl refl
+among_back (a ∷ above) e rest = inr (among_back above e rest)
+
+-- an entry of an earlier level stands there
+pub before_has : (level : ℕ) (above : List Entry) (e : Entry) (rest : List Entry) → e.level < level → Among (literals (before level (above ++ e ∷ rest))) e.literal
+before_has level [] e rest h =
+    subst (λ (es : List Entry). Among (literals es) e.literal) (sym (ap (λ (b : Bool). cond b (e ∷ rest) (before level rest)) (lt-ltb e.level level h))) (inl refl)
+before_has level (a ∷ above) e rest h = by_level (ltb a.level level) (before_has level above e rest h)
+  where
+    by_level : (b : Bool) → Among (literals (before level (above ++ e ∷ rest))) e.literal → Among (literals (cond b (a ∷ (above ++ e ∷ rest)) (before level (above ++ e ∷ rest)))) e.literal
+    by_level true m = inr (among_back above e rest)
+    by_level false m = m
+
+-- the entries of a variable are one
+same_level : (log : List LogLine) (above : List Entry) (e : Entry) (rest : List Entry) → IsTrail log (above ++ e ∷ rest) → AllByRecursion (λ f. f.literal.var ≡ e.literal.var → f.level ≡ e.level) (above ++ e ∷ rest)
+same_level log [] e rest t =
+    ((λ v. refl), All-map (λ f. f.literal.var ≢ e.literal.var) (λ f. f.literal.var ≡ e.literal.var → f.level ≡ e.level) rest (λ f ne v. absurd (ne v)) t.0.fresh)
+same_level log (a ∷ above) e rest t =
+    ((λ v. absurd (All-among (λ k. k.var ≢ a.literal.var) (literals (above ++ e ∷ rest)) e.literal (literals_apart (above ++ e ∷ rest) a.literal.var t.0.fresh) (among_back above e rest) (sym v))), same_level log above e rest t.1)
+
+unset_apart_from : (entries : List Entry) (l : Literal) → AllByRecursion (λ f. f.literal.var ≢ l.var) entries → IsUnset (literals entries) l
+unset_apart_from entries l h =
+    (apart_not_among (literals entries) l (literals_apart entries l.var h), apart_not_among (literals entries) (negated l) (literals_apart entries l.var h))
+
+-- a variable whose entries are not of an earlier level is unset before the level
+pub unset_before : (log : List LogLine) (level at : ℕ) (entries : List Entry) (l : Literal) → IsTrail log entries → level ≤ at → AllByRecursion (λ f. f.literal.var ≡ l.var → f.level ≡ at) entries → IsUnset (literals (before level entries)) l
+unset_before log level at entries l t h same =
+    unset_apart_from (before level entries) l (All-map (λ f. (f.level < level) × (f.literal.var ≡ l.var → f.level ≡ at)) (λ f. f.literal.var ≢ l.var) (before level entries) (λ f p v. let k = p.0 in let e = p.1 v in absurd (omega arith)) (All-both (λ f. f.level < level) (λ f. f.literal.var ≡ l.var → f.level ≡ at) (before level entries) (before_lower log level entries t) (All-before (λ f. f.literal.var ≡ l.var → f.level ≡ at) level entries same)))
+
+-- How many are marked.
+
+pub marked_none : (level : ℕ) (seen : List Bool) (entries : List Entry) → AllByRecursion (λ f. f.level < level) entries → marked_at level seen entries ≡ 0
+marked_none level seen [] h = refl
+marked_none level seen (e ∷ entries) h =
+    let lower = h.0 in
+    let none : cond {A = ℕ} (eqb e.level level && is_marked seen e.literal.var) 1 0 ≡ 0 = ap (λ (b : Bool). cond {A = ℕ} (b && is_marked seen e.literal.var) 1 0) (ne_eqb e.level level (λ same. absurd (omega arith))) in
+    let rest = marked_none level seen entries h.1 in
+    omega arith
+
+and_no : (b : Bool) → cond {A = ℕ} (b && false) 1 0 ≡ 0
+and_no true = refl
+and_no false = refl
+
+pub marked_clear : (level : ℕ) (seen : List Bool) (entries : List Entry) → IsUnmarked seen → marked_at level seen entries ≡ 0
+marked_clear level seen [] h = refl
+marked_clear level seen (e ∷ entries) h =
+    let none : cond {A = ℕ} (eqb e.level level && is_marked seen e.literal.var) 1 0 ≡ 0 = ap (λ (b : Bool). cond {A = ℕ} (eqb e.level level && b) 1 0) (h e.literal.var) ∙ and_no (eqb e.level level) in
+    let rest = marked_clear level seen entries h in
+    omega arith
+
+-- an entry that isn't marked, or is of another level, doesn't count
+pub count_unmarked : (level : ℕ) (seen : List Bool) (e : Entry) (rest : List Entry) → is_marked seen e.literal.var ≡ false → marked_at level seen (e ∷ rest) ≡ marked_at level seen rest
+count_unmarked level seen e rest h =
+    let none : cond {A = ℕ} (eqb e.level level && is_marked seen e.literal.var) 1 0 ≡ 0 = ap (λ (b : Bool). cond {A = ℕ} (eqb e.level level && b) 1 0) h ∙ and_no (eqb e.level level) in
+    omega arith
+
+pub count_elsewhere : (level : ℕ) (seen : List Bool) (e : Entry) (rest : List Entry) → e.level ≢ level → marked_at level seen (e ∷ rest) ≡ marked_at level seen rest
+count_elsewhere level seen e rest h =
+    let none : cond {A = ℕ} (eqb e.level level && is_marked seen e.literal.var) 1 0 ≡ 0 = ap (λ (b : Bool). cond {A = ℕ} (b && is_marked seen e.literal.var) 1 0) (ne_eqb e.level level h) in
+    omega arith
+
+pub count_here : (level : ℕ) (seen : List Bool) (e : Entry) (rest : List Entry) → e.level ≡ level → IsMarked seen e.literal.var → marked_at level seen (e ∷ rest) ≡ 1 + marked_at level seen rest
+count_here level seen e rest h m =
+    let one : cond {A = ℕ} (eqb e.level level && is_marked seen e.literal.var) 1 0 ≡ 1 = ap (λ (b : Bool). cond {A = ℕ} (b && is_marked seen e.literal.var) 1 0) (eq-eqb e.level level h) ∙ ap (λ (b : Bool). cond {A = ℕ} b 1 0) m in
+    omega arith
+
+-- a marked literal that isn't true before the latest level counts there
+pub marked_some : (level : ℕ) (seen : List Bool) (entries : List Entry) (l : Literal) → AllByRecursion (λ f. f.level ≤ level) entries → Among (literals entries) l → ¬ Among (literals (before level entries)) l → IsMarked seen l.var → 1 ≤ marked_at level seen entries
+marked_some level seen [] l h m out marked = absurd m
+marked_some level seen (e ∷ entries) l h m out marked = by_level (cases_lt e.level level) m (marked_some level seen entries l h.1)
+  where
+    by_level : (e.level < level) ⊎ (level ≤ e.level) → Among (literals (e ∷ entries)) l → (Among (literals entries) l → ¬ Among (literals (before level entries)) l → IsMarked seen l.var → 1 ≤ marked_at level seen entries) → 1 ≤ marked_at level seen (e ∷ entries)
+    by_level (inl k) m rest =
+        absurd (out (subst (λ (es : List Entry). Among (literals es) l) (sym (ap (λ (b : Bool). cond b (e ∷ entries) (before level entries)) (lt-ltb e.level level k))) m))
+    by_level (inr k) (inl same) rest =
+        let most = h.0 in
+        let here = count_here level seen e entries (omega arith) (subst (λ (x : Literal). IsMarked seen x.var) (sym same) marked) in
+        omega arith
+    by_level (inr k) (inr n) rest =
+        let more = rest n (subst (λ (es : List Entry). ¬ Among (literals es) l) (ap (λ (b : Bool). cond b (e ∷ entries) (before level entries)) (le-ltb e.level level k)) out) marked in
+        omega arith
+
+-- a conflict at a level above 0 has two literals of that level
+pub conflict_marks : (log : List LogLine) (seen : List Bool) (entries : List Entry) (c : List Literal) → IsTrail log entries → IsFalsified (literals entries) c → IsQuiet (literals (before (top entries) entries)) c → ((l : Literal) → Among c l → IsMarked seen l.var) → 1 ≤ marked_at (top entries) seen entries
+conflict_marks log seen entries c t false_ (inl true_) marks =
+    absurd (consistent (literals entries) (trail_distinct log entries t) true_.literal (among_before (top entries) entries true_.literal true_.is_set) (All-among (λ l. Among (literals entries) (negated l)) c true_.literal false_ true_.stands))
+  where
+    among_before : (level : ℕ) (entries : List Entry) (l : Literal) → Among (literals (before level entries)) l → Among (literals entries) l
+    among_before level [] l m = m
+    among_before level (e ∷ entries) l m = by_level (ltb e.level level) m (among_before level entries l)
+      where
+        by_level : (b : Bool) → Among (literals (cond b (e ∷ entries) (before level entries))) l → (Among (literals (before level entries)) l → Among (literals entries) l) → Among (literals (e ∷ entries)) l
+        by_level true m rest = m
+        by_level false m rest = inr (rest m)
+conflict_marks log seen entries c t false_ (inr two) marks =
+    marked_some (top entries) seen entries (negated two.first) (top_most log entries t) (All-among (λ l. Among (literals entries) (negated l)) c two.first false_ two.first_stands) two.first_unset.1 (marks two.first two.first_stands)
+
+-- how many entries of a level are left to be looked at, without one of this level
+abbrev pub IsLeft : ℕ → ℕ → ℕ → ℕ → Type 0
+IsLeft at level open_ left = (at ≡ level → left + 1 ≡ open_) × (at ≢ level → left ≡ open_)
+
+-- The walk: an entry e with these below it.
+module _ (log : List LogLine) (entries above : List Entry) (e : Entry) (rest : List Entry) (parts : entries ≡ above ++ e ∷ rest) (t : IsTrail log entries) (level : ℕ) (latest : top entries ≡ level) where
+  tail_trail : IsTrail log (e ∷ rest)
+  tail_trail = trail_back log above (e ∷ rest) (subst (IsTrail log) parts t)
+
+  pub entry_level : e.level ≤ level
+  entry_level =
+      let most = All-back (λ f. f.level ≤ top entries) above (e ∷ rest) (subst (AllByRecursion (λ f. f.level ≤ top entries)) parts (top_most log entries t)) in
+      let here = most.0 in
+      omega arith
+
+  rest_lower : e.level < level → AllByRecursion (λ f. f.level < level) rest
+  rest_lower h = All-map (λ f. f.level ≤ e.level) (λ f. f.level < level) rest (λ f k. omega arith) (top_most log (e ∷ rest) tail_trail).1
+
+  decision_last : (reason : Option ℕ) → HasCause log rest e.literal e.level reason → reason ≡ None → AllByRecursion (λ f. f.level < e.level) rest
+  decision_last None c n = All-map (λ f. f.level ≤ top rest) (λ f. f.level < e.level) rest (λ f k. omega (arith, c)) (top_most log rest tail_trail.1)
+  decision_last (Some id) c n = absurd cc
+
+  module _ (seen : List Bool) (lits : List Literal) (open_ left : ℕ) (marked : IsMarked seen e.literal.var) (counted : open_ ≡ marked_at level seen (e ∷ rest)) (is_left : IsLeft e.level level open_ left) (asserting : IsAsserting level entries open_ lits) where
+    pub left_counts : left ≡ marked_at level (set seen e.literal.var false) rest
+    left_counts =
+        by_level (cases_eq e.level level) ∙ sym (marked_other level seen rest e.literal.var false (literals_apart rest e.literal.var tail_trail.0.fresh))
+      where
+        by_level : (e.level ≡ level) ⊎ (e.level ≡ level → ⊥) → left ≡ marked_at level seen rest
+        by_level (inl here) =
+            let one = is_left.0 here in
+            let count = count_here level seen e rest here marked in
+            omega arith
+        by_level (inr there) = is_left.1 there ∙ counted ∙ count_elsewhere level seen e rest there
+
+    -- the entry is kept where it is the last of the level, or of an earlier one but not of level 0
+    pub kept_asserts : (e.reason ≡ None) ⊎ ((e.level ≢ 0) × (e.level ≡ level → left ≡ 0)) → IsAsserting level entries left (lits ++ negated e.literal ∷ [])
+    kept_asserts kept = by_level (cases_lt e.level level)
+      where
+        none_left : e.level ≡ level → (e.reason ≡ None) ⊎ ((e.level ≢ 0) × (e.level ≡ level → left ≡ 0)) → left ≡ 0
+        none_left here (inr k) = k.1 here
+        none_left here (inl d) =
+            left_counts ∙ marked_none level (set seen e.literal.var false) rest (All-map (λ f. f.level < e.level) (λ f. f.level < level) rest (λ f k. omega (arith, here)) (decision_last e.reason tail_trail.0.cause d))
+
+        free : e.level ≡ level → IsUnset (literals (before level entries)) (negated e.literal)
+        free here =
+            unset_before log level e.level entries (negated e.literal) t (omega (arith, here)) (subst (AllByRecursion (λ f. f.literal.var ≡ e.literal.var → f.level ≡ e.level)) (sym parts) (same_level log above e rest (subst (IsTrail log) parts t)))
+
+        first : (kept_lits : List Literal) → IsAsserting level entries open_ kept_lits → e.level ≡ level → IsAsserting level entries left (kept_lits ++ negated e.literal ∷ [])
+        first [] a here = (none_left here kept, free here, tt)
+        first (u ∷ others) a here =
+            let one = is_left.0 here in
+            absurd (omega (arith, a.0))
+
+        later : (kept_lits : List Literal) → IsAsserting level entries open_ kept_lits → e.level < level → IsAsserting level entries left (kept_lits ++ negated e.literal ∷ [])
+        later [] a lower =
+            let none = marked_none level seen (e ∷ rest) (lower, rest_lower lower) in
+            absurd (omega (arith, a, counted))
+        later (u ∷ others) a lower =
+            (is_left.1 (λ same. absurd (omega arith)) ∙ a.0, a.1, All-append (λ l. Among (literals (before level entries)) (negated l)) others (negated e.literal ∷ []) a.2 (subst (λ (l : Literal). Among (literals (before level entries)) l) (sym (negated-negated e.literal)) (subst (λ (es : List Entry). Among (literals (before level es)) e.literal) (sym parts) (before_has level above e rest lower)), tt))
+
+        by_level : (e.level < level) ⊎ (level ≤ e.level) → IsAsserting level entries left (lits ++ negated e.literal ∷ [])
+        by_level (inl lower) = later lits asserting lower
+        by_level (inr upper) =
+            let most = entry_level in
+            first lits asserting (omega arith)
+
+    -- it is resolved away where it is of level 0, or others of the level are left
+    pub resolved_asserts : (found open' : ℕ) (new : List Bool) → (e.level ≡ level → left ≢ 0) → open' ≡ left + found → open' ≡ marked_at level new rest → IsAsserting level entries open' lits
+    resolved_asserts found open' new others sum counts = by_lits lits asserting (cases_eq e.level level)
+      where
+        by_lits : (kept_lits : List Literal) → IsAsserting level entries open_ kept_lits → (e.level ≡ level) ⊎ (e.level ≡ level → ⊥) → IsAsserting level entries open' kept_lits
+        by_lits [] a (inl here) =
+            let some = others here in
+            omega arith
+        by_lits [] a (inr there) =
+            let same = is_left.1 there in
+            omega (arith, a)
+        by_lits (u ∷ kept_lits) a (inl here) =
+            let one = is_left.0 here in
+            absurd (omega (arith, a.0))
+        by_lits (u ∷ kept_lits) a (inr there) =
+            let most = entry_level in
+            let lower : e.level < level = omega arith in
+            (counts ∙ marked_none level new rest (rest_lower lower), a.1, a.2)
+
+-- an entry that isn't marked leaves the count
+pub skipped_counts : (log : List LogLine) (level : ℕ) (seen : List Bool) (e : Entry) (rest : List Entry) → IsTrail log (e ∷ rest) → is_marked seen e.literal.var ≡ false → marked_at level seen (e ∷ rest) ≡ marked_at level (set seen e.literal.var false) rest
+skipped_counts log level seen e rest t unmarked =
+    count_unmarked level seen e rest unmarked ∙ sym (marked_other level seen rest e.literal.var false (literals_apart rest e.literal.var t.0.fresh))
