@@ -7,3 +7,4 @@ pub mod Marks
 pub mod Walks
 pub mod Levels
 pub mod Visits
+pub mod Starts

@@ -1,6 +1,7 @@
 -- What a visit of an entry leaves.
 use Rattle.std.proofs.Common.{◌≡◌, ℕ, ◌+◌, ◌-◌, ◌≤◌, Bool, true, false, cond, eqb, ◌&&◌, inl, inr, List, [], ◌∷◌, ◌++◌, length, take, set, refl, ap, sym, subst, ◌∙◌, arith}
 use Rattle.std.specs.Prelude.{Option, None, Some}
+use Rattle.std.specs.List.{AllByRecursion}
 use Rattle.std.proofs.lemmas.List.{take-append-drop, length-drop}
 use Rattle.sat_log.specs.Literal.{Literal, negated}
 use Rattle.sat_log.specs.Clause.{Among}
@@ -9,7 +10,7 @@ use Rattle.sat_log.specs.declared.line.LogLine.{LogLine}
 use Rattle.sat_core.specs.Trail.{literals, bottom}
 use Rattle.sat_core.specs.Units.{HasCause, IsTrail, IsReason}
 use Rattle.sat_core.specs.Analysis.{Analyzed, is_marked, IsMarked, marked_at, MarksOthers, AreFalseIn, IsAnalysis}
-use Rattle.sat_core.proofs.Logs.{named_distinct}
+use Rattle.sat_core.proofs.Logs.{named_distinct, All-back}
 use Rattle.sat_core.proofs.Trails.{consistent}
 use Rattle.sat_core.proofs.Walks.{step_skip, step_keep, step_resolve}
 use Rattle.sat_core.proofs.Levels.{trail_distinct, trail_back}
@@ -46,10 +47,37 @@ among_whole : (above back : List Entry) (l : Literal) → Among (literals back) 
 among_whole [] back l m = m
 among_whole (a ∷ above) back l m = inr (among_whole above back l m)
 
+-- An entry in its trail.
+module _ (log : List LogLine) (entries : List Entry) (i : ℕ) (e : Entry) (t : IsTrail log entries) (here : bottom (i + 1) entries ≡ e ∷ bottom i entries) where
+  pub trail_at : IsTrail log (e ∷ bottom i entries)
+  trail_at =
+      trail_back log (take (length entries - (i + 1)) entries) (e ∷ bottom i entries) (subst (IsTrail log) (parts_of entries i e here) t)
+
+  pub in_whole : (l : Literal) → Among (literals (e ∷ bottom i entries)) l → Among (literals entries) l
+  in_whole l m =
+      subst (λ (es : List Entry). Among (literals es) l) (sym (parts_of entries i e here)) (among_whole (take (length entries - (i + 1)) entries) (e ∷ bottom i entries) l m)
+
+  -- the clause by which it was implied
+  pub reason_at : (id : ℕ) → e.reason ≡ Some id → IsReason log (literals (bottom i entries)) id e.literal
+  reason_at id same = by_reason e.reason trail_at.0.cause same
+    where
+      by_reason : (reason : Option ℕ) → HasCause log (bottom i entries) e.literal e.level reason → reason ≡ Some id → IsReason log (literals (bottom i entries)) id e.literal
+      by_reason None c n = absurd cc
+      by_reason (Some j) c n =
+          let index : j ≡ id = cc in
+          subst (λ (k : ℕ). IsReason log (literals (bottom i entries)) k e.literal) index c.1
+
+  pub others_false_at : (id : ℕ) (r : IsReason log (literals (bottom i entries)) id e.literal) → AreFalseIn (literals entries) r.clause (literals (bottom i entries))
+  others_false_at id r l stands other =
+      r.implies.others_false l stands (λ same. other (subst (Among (literals entries)) (sym same) (in_whole e.literal (inl refl))))
+
+  -- what holds of each entry holds of this one
+  pub All-at_entry : (P : Entry → Type 0) → AllByRecursion P entries → P e
+  All-at_entry P h = (All-back P (take (length entries - (i + 1)) entries) (e ∷ bottom i entries) (subst (AllByRecursion P) (parts_of entries i e here) h)).0
+
 module _ (log : List LogLine) (entries : List Entry) (i : ℕ) (e : Entry) (a : Analyzed) (is_log : IsLog log) (t : IsTrail log entries) (here : bottom (i + 1) entries ≡ e ∷ bottom i entries) (state : IsAnalysis log (bottom (i + 1) entries) a) where
   pub tail_trail : IsTrail log (e ∷ bottom i entries)
-  tail_trail =
-      trail_back log (take (length entries - (i + 1)) entries) (e ∷ bottom i entries) (subst (IsTrail log) (parts_of entries i e here) t)
+  tail_trail = trail_at log entries i e t here
 
   state_here : IsAnalysis log (e ∷ bottom i entries) a
   state_here = subst (λ (rest : List Entry). IsAnalysis log rest a) here state
@@ -62,22 +90,11 @@ module _ (log : List LogLine) (entries : List Entry) (i : ℕ) (e : Entry) (a : 
 
   -- the clause by which an entry was implied
   pub reason_of : (id : ℕ) → e.reason ≡ Some id → IsReason log (literals (bottom i entries)) id e.literal
-  reason_of id same = by_reason e.reason tail_trail.0.cause same
-    where
-      by_reason : (reason : Option ℕ) → HasCause log (bottom i entries) e.literal e.level reason → reason ≡ Some id → IsReason log (literals (bottom i entries)) id e.literal
-      by_reason None c n = absurd cc
-      by_reason (Some j) c n =
-          let index : j ≡ id = cc in
-          subst (λ (k : ℕ). IsReason log (literals (bottom i entries)) k e.literal) index c.1
-
-  in_whole : (l : Literal) → Among (literals (e ∷ bottom i entries)) l → Among (literals entries) l
-  in_whole l m =
-      subst (λ (es : List Entry). Among (literals es) l) (sym (parts_of entries i e here)) (among_whole (take (length entries - (i + 1)) entries) (e ∷ bottom i entries) l m)
+  reason_of id same = reason_at log entries i e t here id same
 
   pub others_false_in : (id : ℕ) (r : IsReason log (literals (bottom i entries)) id e.literal) → AreFalseIn (literals entries) r.clause (literals (bottom i entries))
-  others_false_in id r l stands other =
-      r.implies.others_false l stands (λ same. other (subst (Among (literals entries)) (sym same) (in_whole e.literal (inl refl))))
+  others_false_in id r = others_false_at log entries i e t here id r
 
   pub visit_resolve : (id : ℕ) (seen : List Bool) (r : IsReason log (literals (bottom i entries)) id e.literal) → IsMarked a.seen e.literal.var → length seen ≡ length a.seen → MarksOthers (literals entries) r.clause (set a.seen e.literal.var false) seen → IsAnalysis log (bottom i entries) (record { seen = seen; lits = a.lits; hints = id ∷ a.hints })
   visit_resolve id seen r marked size marks =
-      step_resolve log e (bottom i entries) a (literals entries) r.clause id seen r.named (named_distinct log id r.clause is_log r.named) (trail_distinct log (bottom i entries) tail_trail.1) tail_trail.0.fresh r.implies (in_whole e.literal (inl refl)) (λ k m true_. consistent (literals entries) (trail_distinct log entries t) k true_ (in_whole (negated k) (inr m))) marks state_here marked size
+      step_resolve log e (bottom i entries) a (literals entries) r.clause id seen r.named (named_distinct log id r.clause is_log r.named) (trail_distinct log (bottom i entries) tail_trail.1) tail_trail.0.fresh r.implies (in_whole log entries i e t here e.literal (inl refl)) (λ k m true_. consistent (literals entries) (trail_distinct log entries t) k true_ (in_whole log entries i e t here (negated k) (inr m))) marks state_here marked size

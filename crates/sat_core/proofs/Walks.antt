@@ -41,7 +41,7 @@ All-from Q [] f = tt
 All-from Q (x ∷ xs) f = (f x (inl refl), All-from Q xs (λ l m. f l (inr m)))
 
 -- two of distinct literals with one variable are one
-one_literal : (xs : List Literal) (l k : Literal) → HasDistinctVariables xs → Among xs l → Among xs k → l.var ≡ k.var → l ≡ k
+pub one_literal : (xs : List Literal) (l k : Literal) → HasDistinctVariables xs → Among xs l → Among xs k → l.var ≡ k.var → l ≡ k
 one_literal [] l k d m n v = absurd m
 one_literal (x ∷ xs) l k d (inl e) (inl f) v = sym e ∙ f
 one_literal (x ∷ xs) l k d (inl e) (inr n) v =

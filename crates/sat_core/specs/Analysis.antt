@@ -86,3 +86,7 @@ abbrev pub IsAsserting : ℕ → List Entry → ℕ → List Literal → Type 0
 IsAsserting level entries open_ [] = 1 ≤ open_
 IsAsserting level entries open_ (u ∷ others) =
     (open_ ≡ 0) × IsUnset (literals (before level entries)) u × AllByRecursion (λ l. Among (literals (before level entries)) (negated l)) others
+
+-- each literal is the negation of one of these
+abbrev pub AreNegationsOf : List Literal → List Literal → Type 0
+AreNegationsOf want c = AllByRecursion (λ l. Among want (negated l)) c

@@ -59,3 +59,7 @@ AreQuiet set cs = AllByRecursion (IsQuiet set) cs
 abbrev pub MissesNoUnit : List LogLine → List Entry → Type 0
 MissesNoUnit log entries =
     (level : ℕ) → 1 ≤ level → level ≤ top entries → AreQuiet (literals (before level entries)) (clauses log)
+
+-- each decision is one of these literals
+abbrev pub AreDecided : List Literal → List Entry → Type 0
+AreDecided want entries = AllByRecursion (λ e. e.reason ≡ None → Among want e.literal) entries
