@@ -8,3 +8,5 @@ pub mod Walks
 pub mod Levels
 pub mod Visits
 pub mod Starts
+pub mod Searches
+pub mod Learning

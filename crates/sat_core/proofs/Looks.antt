@@ -99,7 +99,7 @@ passed_quiet log i variables old new true h p q = p
 passed_quiet log i variables old new false h p q =
     (p.0, subst (AreQuiet (literals new)) (sym (clauses_more log i h)) (All-append (IsQuiet (literals new)) (clauses (take i log)) (option_to_list (clause_at log (i + 1))) p.1 q))
 
-entries_apart : (entries : List Entry) (l : Literal) → IsUnset (literals entries) l → AllByRecursion (λ f. f.literal.var ≢ l.var) entries
+pub entries_apart : (entries : List Entry) (l : Literal) → IsUnset (literals entries) l → AllByRecursion (λ f. f.literal.var ≢ l.var) entries
 entries_apart [] l u = tt
 entries_apart (e ∷ entries) l u =
     ((unset_apart (e.literal ∷ literals entries) l u).0, entries_apart entries l ((λ m. u.0 (inr m)), (λ m. u.1 (inr m))))

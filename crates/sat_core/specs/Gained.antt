@@ -1,11 +1,10 @@
 -- The lines that a log gains in a search.
-use Rattle.std.specs.Prelude.{◌≡◌, ◌≢◌, ◌<◌, ℕ, Bool, true, false, Some, List, [], ◌∷◌, ◌++◌, length, drop, count_by}
+use Rattle.std.specs.Prelude.{◌≡◌, ◌≢◌, ◌<◌, ℕ, Some, List, [], ◌∷◌, ◌++◌, length, drop}
 use Rattle.std.specs.List.{AllByRecursion}
 use Rattle.sat_log.specs.Literal.{Literal, negated}
 use Rattle.sat_log.specs.Clause.{Among}
 use Rattle.sat_log.specs.Accepted.{clauses, line_at}
-use Rattle.sat_log.specs.Learned.{IsNeeded, IsDrawn}
-use Rattle.sat_log.specs.declared.line.LineKind.{LineKind}
+use Rattle.sat_log.specs.Learned.{IsNeeded, IsDrawn, conflicts as conflict_clauses}
 use Rattle.sat_log.specs.declared.line.LineKind.TheVariants.{Original, Conflict, Final}
 use Rattle.sat_log.specs.declared.line.LogLine.{LogLine}
 
@@ -17,14 +16,9 @@ gained old new = drop (length old) new
 abbrev pub IsLonger : List LogLine → List LogLine → Type 0
 IsLonger old new = new ≡ old ++ gained old new
 
-abbrev pub names_conflict : LineKind → Bool
-names_conflict Original = false
-names_conflict Conflict = true
-names_conflict Final = false
-
 -- how many of the lines are conflict lines
 abbrev pub conflicts : List LogLine → ℕ
-conflicts lines = count_by (λ line. names_conflict line.kind) lines
+conflicts lines = length (conflict_clauses lines)
 
 -- no line is an original
 abbrev pub HasNoOriginal : List LogLine → Type 0

@@ -6,3 +6,4 @@ pub mod Trail
 pub mod Units
 pub mod Passes
 pub mod Analysis
+pub mod Search

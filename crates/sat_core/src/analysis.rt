@@ -6,7 +6,8 @@ ghost use Rattle.sat_log.specs.Clause.{HasDistinctVariables};
 ghost use Rattle.sat_log.specs.Accepted.{clause_at};
 ghost use Rattle.sat_log.specs.Checking.{IsUpTo, AreUpTo};
 ghost use Rattle.sat_core.specs.Trail.{literals, bottom};
-ghost use Rattle.sat_core.specs.Analysis.{room, is_marked, marked_at, MarksOthers, AreFalseIn};
+ghost use Rattle.sat_core.specs.Search.{IsJump};
+ghost use Rattle.sat_core.specs.Analysis.{room, is_marked, IsUnmarked, marked_at, MarksOthers, AreFalseIn};
 
 use crate::propagate::clause_at;
 use crate::trail::Trail;
@@ -40,7 +41,7 @@ impl Model for Analysis {
 fn mark_others(seen: &mut [bool], trail: &Trail, clause: &[SLit], level: u64) -> usize
     requires distinct { HasDistinctVariables (literals trail.now.entries) }
     requires exist { IsUpTo trail.now.variables clause.now }
-    requires size { length seen.old ≡ trail.now.variables + 1 }
+    requires size { trail.now.variables < length seen.old }
     ensures marks { MarksOthers (literals trail.now.entries) clause.now seen.old seen.new }
     ensures count { (i : ℕ) → AreFalseIn (literals trail.now.entries) clause.now (literals (bottom i trail.now.entries)) →
         marked_at level seen.new (bottom i trail.now.entries) ≡ marked_at level seen.old (bottom i trail.now.entries) + result }
@@ -71,15 +72,20 @@ impl Analysis {
         })
     }
 
-    /// Makes room for one variable more.
+    /// Makes room for a variable, where there is room for the one before it.
     ///
     /// # Errors
     ///
     /// `AllocError` where memory is refused; what is marked stays as it was.
-    pub(crate) fn add_variable(&mut self) -> Result<(), AllocError>
-        ensures ok { OnOk result (self.new.seen ≡ self.old.seen ++ false ∷ []) }
-        ensures err { OnErr result (self.new.seen ≡ self.old.seen) }
+    pub(crate) fn make_room(&mut self, var: u64) -> Result<(), AllocError>
+        requires { var ≤ length self.old.seen }
+        ensures ok { OnOk result (var < length self.new.seen) }
+        ensures longer { length self.old.seen ≤ length self.new.seen }
+        ensures clear { IsUnmarked self.old.seen → IsUnmarked self.new.seen }
     {
+        if (var as usize) < self.seen.len() {
+            return Ok(());
+        }
         self.seen.reserve(1)?;
         self.lits.reserve(2 * self.seen.len() + 3)?;
         self.hints.reserve(2 * self.seen.len() + 3)?;
@@ -119,7 +125,7 @@ impl Analysis {
     pub(crate) fn resolve(&mut self, log: &Log, trail: &Trail, id: u64, level: u64) -> usize
         requires distinct { HasDistinctVariables (literals trail.now.entries) }
         requires exist { AreUpTo trail.now.variables log.now }
-        requires size { length self.old.seen ≡ trail.now.variables + 1 }
+        requires size { trail.now.variables < length self.old.seen }
         requires room { length self.old.hints < room self.old.seen }
         ensures marks { (c : List Literal) → clause_at log.now id ≡ Some c → MarksOthers (literals trail.now.entries) c self.old.seen self.new.seen }
         ensures count { (c : List Literal) (i : ℕ) → clause_at log.now id ≡ Some c → AreFalseIn (literals trail.now.entries) c (literals (bottom i trail.now.entries)) →
@@ -131,6 +137,17 @@ impl Analysis {
         self.hints.push_reserved(id);
         match clause_at(log, id) {
             Some(clause) => mark_others(&mut self.seen, trail, clause, level),
+            None => 0,
+        }
+    }
+
+    /// The level to which the search jumps back: the latest one among the literals of the clause but the first, or 0.
+    pub(crate) fn jump_level(&self, trail: &Trail) -> u64
+        requires { IsUpTo trail.now.variables self.now.lits }
+        ensures { IsJump trail.now.entries self.now.lits result }
+    {
+        match self.lits.get(1) {
+            Some(literal) => trail.level_of(literal.var()),
             None => 0,
         }
     }

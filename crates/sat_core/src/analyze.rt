@@ -36,7 +36,7 @@ impl Analysis {
         requires log { IsLog log.now }
         requires trail { IsTrail log.now trail.now.entries }
         requires exist { AreUpTo trail.now.variables log.now }
-        requires size { length self.old.seen ≡ trail.now.variables + 1 }
+        requires size { trail.now.variables < length self.old.seen }
         requires inside { i < length trail.now.entries }
         requires latest { top trail.now.entries ≡ level }
         requires above { 1 ≤ level }
@@ -72,7 +72,7 @@ impl Analysis {
         requires log { IsLog log.now }
         requires trail { IsTrail log.now trail.now.entries }
         requires exist { AreUpTo trail.now.variables log.now }
-        requires size { length self.old.seen ≡ trail.now.variables + 1 }
+        requires size { trail.now.variables < length self.old.seen }
         requires clear { IsUnmarked self.old.seen }
         requires conflict { IsConflict log.now (literals trail.now.entries) conflict }
         requires above { 1 ≤ top trail.now.entries }
@@ -95,7 +95,7 @@ impl Analysis {
         requires log { IsLog log.now }
         requires trail { IsTrail log.now trail.now.entries }
         requires exist { AreUpTo trail.now.variables log.now }
-        requires size { length self.old.seen ≡ trail.now.variables + 1 }
+        requires size { trail.now.variables < length self.old.seen }
         requires inside { i < length trail.now.entries }
         requires state { IsAnalysis log.now (bottom (i + 1) trail.now.entries) self.old }
         ensures state { IsAnalysis log.now (bottom i trail.now.entries) self.new }
@@ -119,7 +119,7 @@ impl Analysis {
         requires log { IsLog log.now }
         requires trail { IsTrail log.now trail.now.entries }
         requires exist { AreUpTo trail.now.variables log.now }
-        requires size { length self.old.seen ≡ trail.now.variables + 1 }
+        requires size { trail.now.variables < length self.old.seen }
         requires clear { IsUnmarked self.old.seen }
         requires conflict { IsConflict log.now (literals trail.now.entries) conflict }
         ensures state { IsAnalysis log.now [] self.new }
@@ -139,7 +139,7 @@ impl Analysis {
         requires log { IsLog log.now }
         requires trail { IsTrail log.now trail.now.entries }
         requires exist { AreUpTo trail.now.variables log.now }
-        requires size { length self.old.seen ≡ trail.now.variables + 1 }
+        requires size { trail.now.variables < length self.old.seen }
         requires clear { IsUnmarked self.old.seen }
         requires inside { place < length trail.now.entries }
         requires room { length trail.now.entries ≤ places trail.now.variables }
@@ -163,7 +163,7 @@ impl Analysis {
         requires log { IsLog log.now }
         requires trail { IsTrail log.now trail.now.entries }
         requires exist { AreUpTo trail.now.variables log.now }
-        requires size { length self.old.seen ≡ trail.now.variables + 1 }
+        requires size { trail.now.variables < length self.old.seen }
         requires clear { IsUnmarked self.old.seen }
         requires false_ { Among (literals trail.now.entries) (negated wanted) }
         requires implied { AllByRecursion (λ e. e.reason ≡ None → e.literal ≢ negated wanted) trail.now.entries }

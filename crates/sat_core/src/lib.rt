@@ -10,6 +10,7 @@ mod analyze;
 mod budget;
 mod propagate;
 mod sbits;
+mod search;
 mod solver;
 mod trail;
 mod verdict;

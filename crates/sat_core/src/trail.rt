@@ -60,7 +60,8 @@ impl Trail {
 
     /// How many variables there are.
     pub(crate) fn variables(&self) -> u64
-        ensures { result ≡ self.now.variables }
+        ensures count { result ≡ self.now.variables }
+        ensures small { result < 2 ^ 63 }
     {
         self.variables
     }
@@ -83,7 +84,8 @@ impl Trail {
 
     /// The level of the latest literal: as many levels are open.
     pub(crate) fn level(&self) -> u64
-        ensures { result ≡ top self.now.entries }
+        ensures value { result ≡ top self.now.entries }
+        ensures small { top self.now.entries ≤ length self.now.entries → result < 2 ^ 63 }
     {
         match self.trail.last() {
             Some(literal) => self.levels[literal.var() as usize],
@@ -170,7 +172,7 @@ impl Trail {
     pub(crate) fn decide(&mut self, literal: SLit)
         requires exists { literal.var ≤ self.old.variables }
         requires unset { IsUnset (literals self.old.entries) literal }
-        requires level { top self.old.entries < 2 ^ 63 }
+        requires level { top self.old.entries ≤ length self.old.entries }
         ensures entries { self.new.entries ≡ record { literal = literal; level = top self.old.entries + 1; reason = None } ∷ self.old.entries }
         ensures room { length self.new.entries ≤ places self.new.variables }
         ensures variables { self.new.variables ≡ self.old.variables }
@@ -191,7 +193,6 @@ impl Trail {
 
     /// Takes back what is true since a later level than this one opened.
     pub(crate) fn backjump(&mut self, level: u64)
-        requires { level < 2 ^ 63 }
         ensures entries { self.new.entries ≡ before (level + 1) self.old.entries }
         ensures variables { self.new.variables ≡ self.old.variables }
     {

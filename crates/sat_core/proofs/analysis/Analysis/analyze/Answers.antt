@@ -29,7 +29,7 @@ loop-i-init c =
     let counted : c.resolve-pending.result ≡ marked_at c.level-level.result seen (bottom c.len-i.result entries) = omega arith in
     let some = conflict_counts log entries c.args.conflict c.requires.trail conflict old seen marks c.requires.quiet in
     let here : marked_at c.level-level.result seen (bottom c.len-i.result entries) ≡ marked_at (top entries) seen entries =
-    ap (λ (n : ℕ). marked_at n seen (bottom c.len-i.result entries)) c.level-level.ensures ∙ ap (marked_at (top entries) seen) whole in
+    ap (λ (n : ℕ). marked_at n seen (bottom c.len-i.result entries)) c.level-level.ensures.value ∙ ap (marked_at (top entries) seen) whole in
     let asserts : IsAsserting c.level-level.result entries c.resolve-pending.result [] = omega arith in
     record {
       state = rw whole (subst (IsAnalysis log entries) (sym after) state);

@@ -1,4 +1,4 @@
-use Rattle.std.proofs.Common.{◌≡◌, ◌≢◌, ◌-◌, inl, ap, sym, subst, ◌∙◌, refl, length}
+use Rattle.std.proofs.Common.{◌≡◌, ◌≢◌, ◌-◌, inl, ap, sym, subst, ◌∙◌, refl, length, arith}
 use Rattle.std.specs.Prelude.{None}
 use Rattle.sat_log.specs.Literal.{negated}
 use Rattle.sat_log.specs.Clause.{Among}
@@ -12,7 +12,7 @@ use Rattle.sat_core.proofs.analysis.Analysis.refute_wanted.Goals as goal
 use Rattle.sat_core.proofs.analysis.Analysis.refute_wanted.Goals.{After-entry-entry}
 
 pub refute_from-requires-clause-size : goal.refute_from-requires-clause-size
-refute_from-requires-clause-size c = ap (λ (x : Analyzed). length x.seen) c.loop-place.invariant.same ∙ c.requires.size
+refute_from-requires-clause-size c = omega (arith, c.requires.size, ap (λ (x : Analyzed). length x.seen) c.loop-place.invariant.same)
 
 pub refute_from-requires-clause-clear : goal.refute_from-requires-clause-clear
 refute_from-requires-clause-clear c = subst (λ (x : Analyzed). IsUnmarked x.seen) (sym c.loop-place.invariant.same) c.requires.clear

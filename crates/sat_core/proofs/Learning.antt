@@ -1,0 +1,184 @@
+-- A learned clause: it is accepted, needed and drawn, and no unit is missed after the jump.
+use Rattle.std.proofs.Common.{◌≡◌, ◌≢◌, ℕ, ◌+◌, ◌<◌, ◌≤◌, Bool, true, false, cond, ltb, ◌⊎◌, inl, inr, List, [], ◌∷◌, ◌++◌, length, refl, ap, sym, subst, ◌∙◌, arith}
+use Rattle.std.specs.Prelude.{option_to_list}
+use Rattle.std.specs.List.{AllByRecursion}
+use Rattle.std.proofs.lemmas.Bool.{cases_lt, lt-ltb, le-ltb}
+use Rattle.sat_log.specs.Literal.{Literal, negated}
+use Rattle.sat_log.specs.Clause.{Among, IsUnset, HasDistinctVariables}
+use Rattle.sat_log.specs.Accepted.{hinted, clauses, Accepts}
+use Rattle.sat_log.specs.Learned.{IsNeeded, IsDrawn, StandsInSome, HasTwoUnset}
+use Rattle.sat_log.specs.Checking.{IsUpTo, AreUpTo}
+use Rattle.sat_log.specs.declared.line.LineKind.{LineKind}
+use Rattle.sat_log.specs.declared.line.LineKind.TheVariants.{Conflict}
+use Rattle.sat_log.specs.declared.line.LogLine.{LogLine}
+use Rattle.sat_core.specs.Trail.{Trailed, literals, top, before}
+use Rattle.sat_core.specs.Units.{IsTrail, IsQuiet, AreQuiet, MissesNoUnit}
+use Rattle.sat_core.specs.Analysis.{Analyzed, IsAnalysis, IsAsserting}
+use Rattle.sat_core.specs.Search.{KeepsSearch, AskedFirst, AddsLearned, IsJump}
+use Rattle.sat_core.proofs.Literals.{All-among}
+use Rattle.sat_core.proofs.Logs.{All-append, named_up_to, clauses_push}
+use Rattle.sat_core.proofs.Trails.{consistent}
+use Rattle.sat_core.proofs.Walks.{All-map, finish, finish_clear}
+use Rattle.sat_core.proofs.Levels.{trail_distinct, All-before, before_lower, unset_before}
+use Rattle.sat_core.proofs.Searches.{trail_stays}
+use Rattle.sat_core.specs.declared.trail.Entry.{Entry}
+
+-- The literals of a line exist, since they stand in clauses of the log.
+
+stands_up_to : (n : ℕ) (log : List LogLine) (hints : List ℕ) (l : Literal) → AreUpTo n log → StandsInSome log hints l → l.var ≤ n
+stands_up_to n log [] l up s = absurd s
+stands_up_to n log (id ∷ hints) l up (inl here) = All-among (λ k. k.var ≤ n) here.0 l (named_up_to n log id here.0 up here.1) here.2
+stands_up_to n log (id ∷ hints) l up (inr later) = stands_up_to n log hints l up later
+
+pub drawn_up_to : (n : ℕ) (log : List LogLine) (a : Analyzed) → AreUpTo n log → IsAnalysis log [] a → IsUpTo n a.lits
+drawn_up_to n log a up h = All-map (StandsInSome log a.hints) (λ l. l.var ≤ n) a.lits (λ l s. stands_up_to n log a.hints l up s) h.lits_drawn
+
+-- The trail before a level.
+
+pub before_trail : (log : List LogLine) (level : ℕ) (entries : List Entry) → IsTrail log entries → IsTrail log (before level entries)
+before_trail log level [] t = tt
+before_trail log level (e ∷ entries) t = by_level (ltb e.level level) (before_trail log level entries t.1)
+  where
+    by_level : (b : Bool) → IsTrail log (before level entries) → IsTrail log (cond b (e ∷ entries) (before level entries))
+    by_level true rest = t
+    by_level false rest = rest
+
+pub before_before : (low high : ℕ) (entries : List Entry) → low ≤ high → before low (before high entries) ≡ before low entries
+before_before low high [] h = refl
+before_before low high (e ∷ entries) h = by_level (cases_lt e.level high) (before_before low high entries h)
+  where
+    by_level : (e.level < high) ⊎ (high ≤ e.level) → before low (before high entries) ≡ before low entries → before low (before high (e ∷ entries)) ≡ before low (e ∷ entries)
+    by_level (inl k) rest =
+        ap (λ (b : Bool). before low (cond b (e ∷ entries) (before high entries))) (lt-ltb e.level high k)
+    by_level (inr k) rest =
+        ap (λ (b : Bool). before low (cond b (e ∷ entries) (before high entries))) (le-ltb e.level high k) ∙ rest ∙ sym (ap (λ (b : Bool). cond b (e ∷ entries) (before low entries)) (le-ltb e.level low (omega arith)))
+
+top_lower : (level : ℕ) (entries : List Entry) → AllByRecursion (λ f. f.level < level + 1) entries → top entries ≤ level
+top_lower level [] h = omega arith
+top_lower level (e ∷ entries) h =
+    let first = h.0 in
+    omega arith
+
+among_earlier : (level : ℕ) (entries : List Entry) (l : Literal) → Among (literals (before level entries)) l → Among (literals entries) l
+among_earlier level [] l m = m
+among_earlier level (e ∷ entries) l m = by_level (ltb e.level level) m (among_earlier level entries l)
+  where
+    by_level : (b : Bool) → Among (literals (cond b (e ∷ entries) (before level entries))) l → (Among (literals (before level entries)) l → Among (literals entries) l) → Among (literals (e ∷ entries)) l
+    by_level true m rest = m
+    by_level false m rest = inr (rest m)
+
+-- what is unset before a level is so before an earlier one
+unset_earlier : (low high : ℕ) (entries : List Entry) (l : Literal) → low ≤ high → IsUnset (literals (before high entries)) l → IsUnset (literals (before low entries)) l
+unset_earlier low high entries l h u =
+    ((λ m. u.0 (inside l m)), (λ m. u.1 (inside (negated l) m)))
+  where
+    inside : (k : Literal) → Among (literals (before low entries)) k → Among (literals (before high entries)) k
+    inside k m =
+        among_earlier low (before high entries) k (subst (λ (es : List Entry). Among (literals es) k) (sym (before_before low high entries h)) m)
+
+pub asked_before : (want : List Literal) (level : ℕ) (entries : List Entry) → AskedFirst want entries → AskedFirst want (before level entries)
+asked_before want level [] a = tt
+asked_before want level (e ∷ entries) a = by_level (ltb e.level level) (asked_before want level entries a.1)
+  where
+    by_level : (b : Bool) → AskedFirst want (before level entries) → AskedFirst want (cond b (e ∷ entries) (before level entries))
+    by_level true rest = a
+    by_level false rest = rest
+
+-- an entry of a variable has a level below this one
+level_below : (level at : ℕ) (entries : List Entry) (l : Literal) → AllByRecursion (λ f. f.level < level) entries → AllByRecursion (λ e. e.literal.var ≡ l.var → e.level ≡ at) entries → Among (literals entries) (negated l) → at < level
+level_below level at [] l lower same m = absurd m
+level_below level at (e ∷ entries) l lower same (inl here) =
+    let first = lower.0 in
+    let level_is = same.0 (ap (λ (k : Literal). k.var) here) in
+    omega arith
+level_below level at (e ∷ entries) l lower same (inr m) = level_below level at entries l lower.1 same.1 m
+
+-- The line.
+module _ (log : List LogLine) (entries : List Entry) (a : Analyzed) (t : IsTrail log entries) (quiet : MissesNoUnit log entries) (above : 1 ≤ top entries) (state : IsAnalysis log [] a) where
+  pub line_accepted : (kind : LineKind) → Accepts log (record { kind = kind; lits = a.lits; hints = a.hints })
+  line_accepted kind = record { distinct = state.distinct; refuted = (finish log a state).0 }
+
+  pub line_drawn : (kind : LineKind) → IsDrawn log (record { kind = kind; lits = a.lits; hints = a.hints })
+  line_drawn kind = record { literals = state.lits_drawn; used = (finish log a state).1 }
+
+  pub line_needed : (lits : List Literal) → IsAsserting (top entries) entries 0 lits → IsNeeded (clauses log) lits
+  line_needed [] asserting = absurd (omega arith)
+  line_needed (u ∷ others) asserting =
+      let earlier = before (top entries) entries in
+      record {
+        asserted = u;
+        set = literals earlier;
+        stands = inl refl;
+        consistent = consistent (literals earlier) (trail_distinct log earlier (before_trail log (top entries) entries t));
+        others_false = (λ l m ne. by_place l ne m);
+        unset = asserting.1;
+        no_unit = quiet (top entries) above (omega arith);
+      }
+    where
+      by_place : (l : Literal) → l ≢ u → Among (u ∷ others) l → Among (literals (before (top entries) entries)) (negated l)
+      by_place l ne (inl same) = absurd (ne (sym same))
+      by_place l ne (inr m) = All-among (λ k. Among (literals (before (top entries) entries)) (negated k)) others l asserting.2 m
+
+  -- before each level up to that of the jump, the learned clause has two unset literals
+  two_unset : (lits : List Literal) (jump level : ℕ) → HasDistinctVariables lits → IsAsserting (top entries) entries 0 lits → IsJump entries lits jump → 1 ≤ level → level ≤ jump → (jump < top entries) × HasTwoUnset (literals (before level entries)) lits
+  two_unset [] jump level d asserting j first most = absurd (omega arith)
+  two_unset (u ∷ []) jump level d asserting j first most = absurd (omega arith)
+  two_unset (u ∷ o ∷ others) jump level d asserting j first most =
+      let below : jump < top entries = level_below (top entries) jump (before (top entries) entries) o (before_lower log (top entries) entries t) (All-before (λ e. e.literal.var ≡ o.var → e.level ≡ jump) (top entries) entries j) asserting.2.0 in (
+        below,
+        record {
+          first = u;
+          second = o;
+          apart = (λ same. d.0.0 (ap (λ (k : Literal). k.var) (sym same)));
+          first_stands = inl refl;
+          second_stands = inr (inl refl);
+          first_unset = unset_earlier level (top entries) entries u (omega arith) asserting.1;
+          second_unset = unset_before log level jump entries o t most j;
+        },
+      )
+
+  -- no unit is missed after the jump
+  pub jump_quiet : (kind : LineKind) (jump : ℕ) → kind ≡ Conflict → IsAsserting (top entries) entries 0 a.lits → IsJump entries a.lits jump → MissesNoUnit (log ++ record { kind = kind; lits = a.lits; hints = a.hints } ∷ []) (before (jump + 1) entries)
+  jump_quiet kind jump conflict asserting j level first most =
+      let back : top (before (jump + 1) entries) ≤ jump = top_lower jump (before (jump + 1) entries) (before_lower log (jump + 1) entries t) in
+      let two = two_unset a.lits jump level state.distinct asserting j first (omega arith) in
+      let below = two.0 in
+      let old : AreQuiet (literals (before level entries)) (clauses log) = quiet level first (omega arith) in
+      let same : before level (before (jump + 1) entries) ≡ before level entries = before_before level (jump + 1) entries (omega arith) in
+      let all : clauses (log ++ record { kind = kind; lits = a.lits; hints = a.hints } ∷ []) ≡ clauses log ++ a.lits ∷ [] =
+      clauses_push log (record { kind = kind; lits = a.lits; hints = a.hints }) ∙ ap (λ (k : LineKind). clauses log ++ option_to_list (hinted k a.lits)) conflict in
+      rw (same, all) (All-append (IsQuiet (literals (before level entries))) (clauses log) (a.lits ∷ []) old (inr two.1, tt))
+
+-- what is kept, where nothing is marked any more
+pub keeps_marks : (log : List LogLine) (trail : Trailed) (old new : Analyzed) → KeepsSearch log trail old → IsAnalysis log [] new → length new.seen ≡ length old.seen → KeepsSearch log trail new
+keeps_marks log trail old new k state size =
+    let room = k.size in
+    record {
+      exist = k.exist;
+      trail_is = k.trail_is;
+      quiet = k.quiet;
+      clear = finish_clear log new state;
+      size = omega arith;
+    }
+
+-- what is kept when the clause is learned
+pub keeps_learned : (log : List LogLine) (old new : Trailed) (before_ a : Analyzed) (jump : ℕ) → KeepsSearch log old before_ → 1 ≤ top old.entries → IsAnalysis log [] a → IsAsserting (top old.entries) old.entries 0 a.lits → IsJump old.entries a.lits jump → length a.seen ≡ length before_.seen → new.entries ≡ before (jump + 1) old.entries → new.variables ≡ old.variables → KeepsSearch (log ++ record { kind = Conflict; lits = a.lits; hints = a.hints } ∷ []) new a
+keeps_learned log old new before_ a jump k above state asserting j size same variables =
+    let room = k.size in
+    record {
+      exist = subst (λ (n : ℕ). AreUpTo n (log ++ record { kind = Conflict; lits = a.lits; hints = a.hints } ∷ [])) (sym variables) (All-append (λ (line : LogLine). IsUpTo old.variables line.lits) log (record { kind = Conflict; lits = a.lits; hints = a.hints } ∷ []) k.exist (drawn_up_to old.variables log a k.exist state, tt));
+      trail_is = subst (IsTrail (log ++ record { kind = Conflict; lits = a.lits; hints = a.hints } ∷ [])) (sym same) (trail_stays log (record { kind = Conflict; lits = a.lits; hints = a.hints }) (before (jump + 1) old.entries) (before_trail log (jump + 1) old.entries k.trail_is));
+      quiet = subst (MissesNoUnit (log ++ record { kind = Conflict; lits = a.lits; hints = a.hints } ∷ [])) (sym same) (jump_quiet log old.entries a k.trail_is k.quiet above state Conflict jump refl asserting j);
+      clear = finish_clear log a state;
+      size = omega arith;
+    }
+
+pub adds_learned : (log : List LogLine) (entries : List Entry) (a : Analyzed) → IsTrail log entries → MissesNoUnit log entries → 1 ≤ top entries → IsAnalysis log [] a → IsAsserting (top entries) entries 0 a.lits → AddsLearned log (log ++ record { kind = Conflict; lits = a.lits; hints = a.hints } ∷ [])
+adds_learned log entries a t quiet above state asserting =
+    record {
+      line = record { kind = Conflict; lits = a.lits; hints = a.hints };
+      same = refl;
+      kind = refl;
+      needed = line_needed log entries a t quiet above state a.lits asserting;
+      drawn = line_drawn log entries a t quiet above state Conflict;
+    }

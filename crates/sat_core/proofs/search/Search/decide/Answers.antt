@@ -1,0 +1,42 @@
+use Rattle.std.proofs.Common.{◌≤◌, sym, subst}
+use Rattle.std.proofs.lemmas.Bool.{iff_false}
+use Rattle.sat_log.specs.Literal.{Literal}
+use Rattle.sat_log.specs.Clause.{Among, IsUnset}
+use Rattle.sat_log.specs.Accepted.{clauses}
+use Rattle.sat_log.specs.Checking.{IsUpTo}
+use Rattle.sat_core.specs.Trail.{literals}
+use Rattle.sat_core.specs.Units.{AreQuiet}
+use Rattle.sat_core.specs.Search.{Searched}
+use Rattle.sat_core.proofs.Literals.{All-among}
+use Rattle.sat_core.proofs.Searches.{top_length, keeps_decision}
+use Rattle.sat_core.proofs.search.Search.decide.Goals as goal
+
+pub decide-requires-clause-level : goal.decide-requires-clause-level
+decide-requires-clause-level c = top_length c.self.inside.log c.self.inside.trail.entries c.self.invariant.trail_is
+
+pub decide-requires-in-Some-unset-clause-level : goal.decide-requires-in-Some-unset-clause-level
+decide-requires-in-Some-unset-clause-level c = top_length c.self.inside.log c.self.inside.trail.entries c.self.invariant.trail_is
+
+pub is_true-requires : goal.is_true-requires
+is_true-requires c =
+    let up = subst (λ (v : Searched). IsUpTo v.variables c.args.want.now) (sym c.self.view_is) c.requires.exist in
+    subst (λ (l : Literal). l.var ≤ c.self.inside.trail.variables) (sym c.negated.ensures) (All-among (λ l. l.var ≤ c.self.inside.trail.variables) c.args.want.now c.in-Some.literal up c.in-Some.ensures.wanted)
+
+pub decide-requires-clause-exists : goal.decide-requires-clause-exists
+decide-requires-clause-exists c =
+    let up = subst (λ (v : Searched). IsUpTo v.variables c.args.want.now) (sym c.self.view_is) c.requires.exist in
+    All-among (λ l. l.var ≤ c.self.inside.trail.variables) c.args.want.now c.in-Some.literal up c.in-Some.ensures.wanted
+
+pub invariant_of-self : goal.invariant_of-self
+invariant_of-self c =
+    let s = c.self.inside in
+    let quiet = subst (λ (v : Searched). AreQuiet (literals v.entries) (clauses v.log)) (sym c.self.view_is) c.requires.quiet in
+    let free : IsUnset (literals s.trail.entries) c.in-Some.literal =
+    (c.in-Some.ensures.open_, (λ m. iff_false c.is_true.ensures c.if-is_true.false (subst (Among (literals s.trail.entries)) (sym c.negated.ensures) m))) in
+    keeps_decision s.log s.trail c.decide.new.self s.analysis c.in-Some.literal c.self.invariant free quiet c.decide.ensures.entries c.decide.ensures.variables
+
+pub invariant_of-self-in-Some-unset : goal.invariant_of-self-in-Some-unset
+invariant_of-self-in-Some-unset c =
+    let s = c.self.inside in
+    let quiet = subst (λ (v : Searched). AreQuiet (literals v.entries) (clauses v.log)) (sym c.self.view_is) c.requires.quiet in
+    keeps_decision s.log s.trail c.decide-in-Some-unset.new.self s.analysis c.in-Some-unset.literal c.self.invariant c.in-Some-unset.ensures.unset quiet c.decide-in-Some-unset.ensures.entries c.decide-in-Some-unset.ensures.variables

@@ -1,0 +1,61 @@
+-- What a search keeps between its steps.
+use Rattle.std.specs.Prelude.{◌≡◌, ◌⊎◌, ◌<◌, ℕ, None, List, [], ◌∷◌, ◌++◌, length}
+use Rattle.std.specs.List.{AllByRecursion}
+use Rattle.sat_log.specs.Literal.{Literal, negated}
+use Rattle.sat_log.specs.Clause.{Among}
+use Rattle.sat_log.specs.Accepted.{clauses}
+use Rattle.sat_log.specs.Learned.{IsNeeded, IsDrawn}
+use Rattle.sat_log.specs.Checking.{AreUpTo}
+use Rattle.sat_log.specs.declared.line.LineKind.TheVariants.{Conflict}
+use Rattle.sat_log.specs.declared.line.LogLine.{LogLine}
+use Rattle.sat_core.specs.Trail.{Trailed, literals}
+use Rattle.sat_core.specs.Units.{IsTrail, MissesNoUnit}
+use Rattle.sat_core.specs.Analysis.{Analyzed, IsUnmarked}
+use Rattle.sat_core.specs.declared.trail.Entry.{Entry}
+use Rattle.sat_core.specs.declared.search.Decision.{Decision}
+use Rattle.sat_core.specs.declared.search.Decision.TheVariants.{Made, False, Complete}
+
+-- how many variables there are, the log, and the entries of the trail
+pub record Searched : Type 0 where
+  pub variables : ℕ
+  pub log : List LogLine
+  pub entries : List Entry
+
+-- The log has only variables that exist, each entry of the trail has its cause, no unit was missed where a level opened,
+-- and nothing is marked.
+pub record KeepsSearch (log : List LogLine) (trail : Trailed) (analysis : Analyzed) : Type 0 where
+  pub exist : AreUpTo trail.variables log
+  pub trail_is : IsTrail log trail.entries
+  pub quiet : MissesNoUnit log trail.entries
+  pub clear : IsUnmarked analysis.seen
+  pub size : trail.variables < length analysis.seen
+
+-- all of these literals are true
+abbrev pub AreAmong : List Literal → List Literal → Type 0
+AreAmong set c = AllByRecursion (Among set) c
+
+-- Each decision is wanted, or was made when all that is wanted was true.
+abbrev pub AskedFirst : List Literal → List Entry → Type 0
+AskedFirst want [] = Unit {0}
+AskedFirst want (e ∷ entries) =
+    (e.reason ≡ None → Among want e.literal ⊎ AreAmong (literals entries) want) × AskedFirst want entries
+
+-- what comes of looking for a decision
+abbrev pub IsDecided : List Literal → List Entry → Decision → Type 0
+IsDecided want entries Made = Unit {0}
+IsDecided want entries (False l) = Among want l × Among (literals entries) (negated l)
+IsDecided want entries Complete = AreAmong (literals entries) want
+
+-- The log gained one conflict line, which is needed and drawn.
+pub record AddsLearned (old new : List LogLine) : Type 0 where
+  pub line : LogLine
+  pub same : new ≡ old ++ line ∷ []
+  pub kind : line.kind ≡ Conflict
+  pub needed : IsNeeded (clauses old) line.lits
+  pub drawn : IsDrawn old line
+
+-- the level of the clause's second literal, or 0 where there is none
+abbrev pub IsJump : List Entry → List Literal → ℕ → Type 0
+IsJump entries [] level = Unit {0}
+IsJump entries (u ∷ []) level = level ≡ 0
+IsJump entries (u ∷ o ∷ others) level = AllByRecursion (λ e. e.literal.var ≡ o.var → e.level ≡ level) entries
