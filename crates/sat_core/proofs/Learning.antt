@@ -1,7 +1,8 @@
 -- A learned clause: it is accepted, needed and drawn, and no unit is missed after the jump.
 use Rattle.std.proofs.Common.{◌≡◌, ◌≢◌, ℕ, ◌+◌, ◌<◌, ◌≤◌, Bool, true, false, cond, ltb, ◌⊎◌, inl, inr, List, [], ◌∷◌, ◌++◌, length, refl, ap, sym, subst, ◌∙◌, arith}
-use Rattle.std.specs.Prelude.{option_to_list}
+use Rattle.std.specs.Prelude.{Option, None, Some, Result, Ok, Err, OnOk, OnErr, option_to_list}
 use Rattle.std.specs.List.{AllByRecursion}
+use Rattle.std.proofs.lemmas.List.{append-nil}
 use Rattle.std.proofs.lemmas.Bool.{cases_lt, lt-ltb, le-ltb}
 use Rattle.sat_log.specs.Literal.{Literal, negated}
 use Rattle.sat_log.specs.Clause.{Among, IsUnset, HasDistinctVariables}
@@ -9,17 +10,17 @@ use Rattle.sat_log.specs.Accepted.{hinted, clauses, Accepts}
 use Rattle.sat_log.specs.Learned.{IsNeeded, IsDrawn, StandsInSome, HasTwoUnset}
 use Rattle.sat_log.specs.Checking.{IsUpTo, AreUpTo}
 use Rattle.sat_log.specs.declared.line.LineKind.{LineKind}
-use Rattle.sat_log.specs.declared.line.LineKind.TheVariants.{Conflict}
+use Rattle.sat_log.specs.declared.line.LineKind.TheVariants.{Conflict, Final}
 use Rattle.sat_log.specs.declared.line.LogLine.{LogLine}
 use Rattle.sat_core.specs.Trail.{Trailed, literals, top, before}
-use Rattle.sat_core.specs.Units.{IsTrail, IsQuiet, AreQuiet, MissesNoUnit}
-use Rattle.sat_core.specs.Analysis.{Analyzed, IsAnalysis, IsAsserting}
-use Rattle.sat_core.specs.Search.{KeepsSearch, AskedFirst, AddsLearned, IsJump}
+use Rattle.sat_core.specs.Units.{HasCause, AreDecided, IsTrail, IsQuiet, AreQuiet, MissesNoUnit}
+use Rattle.sat_core.specs.Analysis.{Analyzed, IsAnalysis, IsAsserting, AreNegationsOf}
+use Rattle.sat_core.specs.Search.{KeepsSearch, AreAmong, AskedFirst, AddsLearned, AddsFinal, IsJump}
 use Rattle.sat_core.proofs.Literals.{All-among}
 use Rattle.sat_core.proofs.Logs.{All-append, named_up_to, clauses_push}
 use Rattle.sat_core.proofs.Trails.{consistent}
 use Rattle.sat_core.proofs.Walks.{All-map, finish, finish_clear}
-use Rattle.sat_core.proofs.Levels.{trail_distinct, All-before, before_lower, unset_before}
+use Rattle.sat_core.proofs.Levels.{trail_distinct, top_most, All-before, before_lower, unset_before}
 use Rattle.sat_core.proofs.Searches.{trail_stays}
 use Rattle.sat_core.specs.declared.trail.Entry.{Entry}
 
@@ -182,3 +183,68 @@ adds_learned log entries a t quiet above state asserting =
       needed = line_needed log entries a t quiet above state a.lits asserting;
       drawn = line_drawn log entries a t quiet above state Conflict;
     }
+
+-- Final lines.
+
+no_decision : (log : List LogLine) (entries : List Entry) (l : Literal) (level : ℕ) (reason : Option ℕ) → HasCause log entries l level reason → level ≡ 0 → ¬ (reason ≡ None)
+no_decision log entries l level None c none same = absurd (omega (arith, c))
+no_decision log entries l level (Some id) c none same = absurd cc
+
+-- at level 0 nothing was decided
+pub decided_none : (log : List LogLine) (want : List Literal) (entries : List Entry) → IsTrail log entries → top entries ≡ 0 → AreDecided want entries
+decided_none log want [] t none = tt
+decided_none log want (e ∷ entries) t none =
+    let below = (top_most log (e ∷ entries) t).1 in
+    ((λ same. absurd (no_decision log entries e.literal e.level e.reason t.0.cause none same)), decided_none log want entries t.1 (top_zero entries below))
+  where
+    top_zero : (es : List Entry) → AllByRecursion (λ f. f.level ≤ e.level) es → top es ≡ 0
+    top_zero [] h = refl
+    top_zero (f ∷ es) h =
+        let first = h.0 in
+        omega arith
+
+-- as long as something wanted is not true, all decisions are wanted
+pub decided_wanted : (want : List Literal) (entries : List Entry) (l : Literal) → AskedFirst want entries → Among want l → ¬ Among (literals entries) l → AreDecided want entries
+decided_wanted want [] l a m out = tt
+decided_wanted want (e ∷ entries) l a m out =
+    ((λ same. by_asked (a.0 same)), decided_wanted want entries l a.1 m (λ n. out (inr n)))
+  where
+    by_asked : Among want e.literal ⊎ AreAmong (literals entries) want → Among want e.literal
+    by_asked (inl n) = n
+    by_asked (inr all) = absurd (out (inr (All-among (Among (literals entries)) want l all m)))
+
+-- and none of them is the negation of something wanted
+pub none_negated : (want : List Literal) (entries : List Entry) (l : Literal) → HasDistinctVariables want → Among want l → AreDecided want entries → AllByRecursion (λ e. e.reason ≡ None → e.literal ≢ negated l) entries
+none_negated want entries l d m decided =
+    All-map (λ (e : Entry). e.reason ≡ None → Among want e.literal) (λ e. e.reason ≡ None → e.literal ≢ negated l) entries (λ e wanted none same. consistent want d l m (subst (Among want) same (wanted none))) decided
+
+pub keeps_final : (log : List LogLine) (trail : Trailed) (old a : Analyzed) → KeepsSearch log trail old → IsAnalysis log [] a → length a.seen ≡ length old.seen → KeepsSearch (log ++ record { kind = Final; lits = a.lits; hints = a.hints } ∷ []) trail a
+keeps_final log trail old a k state size =
+    let line : LogLine = record { kind = Final; lits = a.lits; hints = a.hints } in
+    let room = k.size in
+    let same : clauses (log ++ line ∷ []) ≡ clauses log = clauses_push log line ∙ append-nil (clauses log) in
+    record {
+      exist = All-append (λ (x : LogLine). IsUpTo trail.variables x.lits) log (line ∷ []) k.exist (drawn_up_to trail.variables log a k.exist state, tt);
+      trail_is = trail_stays log line trail.entries k.trail_is;
+      quiet = (λ level first most. subst (AreQuiet (literals (before level trail.entries))) (sym same) (k.quiet level first most));
+      clear = finish_clear log a state;
+      size = omega arith;
+    }
+
+pub final_accepted : (log : List LogLine) (a : Analyzed) → IsAnalysis log [] a → Accepts log (record { kind = Final; lits = a.lits; hints = a.hints })
+final_accepted log a state = record { distinct = state.distinct; refuted = (finish log a state).0 }
+
+pub adds_final : (want : List Literal) (log : List LogLine) (a : Analyzed) → IsAnalysis log [] a → AreNegationsOf want a.lits → AddsFinal want log (log ++ record { kind = Final; lits = a.lits; hints = a.hints } ∷ [])
+adds_final want log a state negations =
+    record {
+      line = record { kind = Final; lits = a.lits; hints = a.hints };
+      same = refl;
+      kind = refl;
+      accepted = final_accepted log a state;
+      literals_are = negations;
+    }
+
+-- what holds where a call succeeds
+pub on_ok : {A E P Q : Type 0} (r : Result A E) → (P → Q) → OnOk r P → OnOk r Q
+on_ok (Ok x) f h = f h
+on_ok (Err e) f h = tt

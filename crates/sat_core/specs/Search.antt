@@ -3,17 +3,17 @@ use Rattle.std.specs.Prelude.{◌≡◌, ◌⊎◌, ◌<◌, ℕ, None, List, []
 use Rattle.std.specs.List.{AllByRecursion}
 use Rattle.sat_log.specs.Literal.{Literal, negated}
 use Rattle.sat_log.specs.Clause.{Among}
-use Rattle.sat_log.specs.Accepted.{clauses}
+use Rattle.sat_log.specs.Accepted.{Accepts, clauses}
 use Rattle.sat_log.specs.Learned.{IsNeeded, IsDrawn}
 use Rattle.sat_log.specs.Checking.{AreUpTo}
-use Rattle.sat_log.specs.declared.line.LineKind.TheVariants.{Conflict}
+use Rattle.sat_log.specs.declared.line.LineKind.TheVariants.{Conflict, Final}
 use Rattle.sat_log.specs.declared.line.LogLine.{LogLine}
 use Rattle.sat_core.specs.Trail.{Trailed, literals}
 use Rattle.sat_core.specs.Units.{IsTrail, MissesNoUnit}
-use Rattle.sat_core.specs.Analysis.{Analyzed, IsUnmarked}
+use Rattle.sat_core.specs.Analysis.{Analyzed, IsUnmarked, AreNegationsOf}
 use Rattle.sat_core.specs.declared.trail.Entry.{Entry}
-use Rattle.sat_core.specs.declared.search.Decision.{Decision}
-use Rattle.sat_core.specs.declared.search.Decision.TheVariants.{Made, False, Complete}
+use Rattle.sat_core.specs.declared.decide.Decision.{Decision}
+use Rattle.sat_core.specs.declared.decide.Decision.TheVariants.{Made, False, Complete}
 
 -- how many variables there are, the log, and the entries of the trail
 pub record Searched : Type 0 where
@@ -59,3 +59,11 @@ abbrev pub IsJump : List Entry → List Literal → ℕ → Type 0
 IsJump entries [] level = Unit {0}
 IsJump entries (u ∷ []) level = level ≡ 0
 IsJump entries (u ∷ o ∷ others) level = AllByRecursion (λ e. e.literal.var ≡ o.var → e.level ≡ level) entries
+
+-- The log gained one final line, over negations of what is wanted.
+pub record AddsFinal (want : List Literal) (old new : List LogLine) : Type 0 where
+  pub line : LogLine
+  pub same : new ≡ old ++ line ∷ []
+  pub kind : line.kind ≡ Final
+  pub accepted : Accepts old line
+  pub literals_are : AreNegationsOf want line.lits

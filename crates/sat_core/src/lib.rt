@@ -8,6 +8,8 @@
 mod analysis;
 mod analyze;
 mod budget;
+mod decide;
+mod learn;
 mod propagate;
 mod sbits;
 mod search;

@@ -1,7 +1,7 @@
 use Rattle.std.proofs.Common.{arith}
 use Rattle.sat_core.specs.Trail.{literals}
 use Rattle.sat_core.proofs.Looks.{stands_at}
-use Rattle.sat_core.proofs.search.first_open.Goals as goal
+use Rattle.sat_core.proofs.decide.first_open.Goals as goal
 
 pub returns-then-not-is_true-clause-wanted : goal.returns-then-not-is_true-clause-wanted
 returns-then-not-is_true-clause-wanted c =

@@ -1,7 +1,7 @@
 use Rattle.std.proofs.Common.{take}
 use Rattle.sat_core.specs.Trail.{literals}
 use Rattle.sat_core.specs.Search.{AreAmong}
-use Rattle.sat_core.proofs.search.first_open.Given as goal
+use Rattle.sat_core.proofs.decide.first_open.Given as goal
 
 abbrev pub invariant-loop-literal : goal.invariant-loop-literal
 invariant-loop-literal l = AreAmong (literals l.trail.entries) (take l.literal-index l.want)

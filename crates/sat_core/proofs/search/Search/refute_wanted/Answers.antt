@@ -1,0 +1,41 @@
+use Rattle.std.proofs.Common.{◌≡◌, ◌∷◌, [], ◌++◌, ap, sym, subst, ◌∙◌}
+use Rattle.sat_log.specs.Literal.{negated}
+use Rattle.sat_log.specs.Clause.{Among}
+use Rattle.sat_log.specs.declared.line.LineKind.TheVariants.{Final}
+use Rattle.sat_core.specs.Trail.{literals}
+use Rattle.sat_core.specs.Units.{AreDecided}
+use Rattle.sat_core.specs.Search.{Searched, KeepsSearch, AskedFirst, AddsFinal}
+use Rattle.sat_core.proofs.Trails.{consistent}
+use Rattle.sat_core.proofs.Levels.{trail_distinct}
+use Rattle.sat_core.proofs.Searches.{by_result}
+use Rattle.sat_core.proofs.Learning.{decided_wanted, none_negated, keeps_marks, keeps_final, adds_final, on_ok}
+use Rattle.sat_core.proofs.search.Search.refute_wanted.Goals as goal
+use Rattle.sat_core.proofs.search.Search.refute_wanted.Goals.{After-self}
+
+-- all decisions are wanted
+decided : (c : After-self) → AreDecided c.args.want.now c.self.inside.trail.entries
+decided c =
+    let s = c.self.inside in
+    let false_ = subst (λ (v : Searched). Among (literals v.entries) (negated c.args.wanted)) (sym c.self.view_is) c.requires.false_ in
+    let asked = subst (λ (v : Searched). AskedFirst c.args.want.now v.entries) (sym c.self.view_is) c.requires.asked in
+    decided_wanted c.args.want.now s.trail.entries c.args.wanted asked c.requires.wanted (λ m. consistent (literals s.trail.entries) (trail_distinct s.log s.trail.entries c.self.invariant.trail_is) c.args.wanted m false_)
+
+pub refute_wanted-requires-clause-implied : goal.refute_wanted-requires-clause-implied
+refute_wanted-requires-clause-implied c =
+    none_negated c.args.want.now c.self.inside.trail.entries c.args.wanted c.requires.distinct c.requires.wanted (decided (goal.at.refute_wanted-requires-clause-implied c).After-self)
+
+pub invariant_of-self : goal.invariant_of-self
+invariant_of-self c =
+    let s = c.self.inside in
+    let a = c.refute_wanted.new.self in
+    by_result (λ log. KeepsSearch log s.trail a) c.append_final.result s.log c.append_final.new.log (record { kind = Final; lits = a.lits; hints = a.hints }) c.append_final.ensures.ok c.append_final.ensures.err
+    (keeps_marks s.log s.trail s.analysis a c.self.invariant c.refute_wanted.ensures.state c.refute_wanted.ensures.size)
+    (keeps_final s.log s.trail s.analysis a c.self.invariant c.refute_wanted.ensures.state c.refute_wanted.ensures.size)
+
+pub returns-clause-ok : goal.returns-clause-ok
+returns-clause-ok c =
+    let s = c.self.inside in
+    let a = c.refute_wanted.new.self in
+    let negations = c.refute_wanted.ensures.kept c.args.want.now (decided (goal.at.returns-clause-ok c).After-self) c.requires.wanted in
+    let added = adds_final c.args.want.now s.log a c.refute_wanted.ensures.state negations in
+    on_ok c.append_final.result (λ same. subst (λ (v : Searched). AddsFinal c.args.want.now v.log c.append_final.new.log) c.self.view_is (subst (AddsFinal c.args.want.now s.log) (sym same) added)) c.append_final.ensures.ok

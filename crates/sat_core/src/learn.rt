@@ -1,0 +1,114 @@
+//! Lines of the log: clauses learned from conflicts, and final ones.
+
+ghost use Rattle.std.specs.Prelude.{◌≡◌, ◌≢◌, ◌≤◌, ◌++◌, ◌∷◌, [], List, length, IfOk, OnOk, OnErr};
+ghost use Rattle.sat_log.specs.Literal.{Literal, negated};
+ghost use Rattle.sat_log.specs.Clause.{Among, HasDistinctVariables};
+ghost use Rattle.sat_log.specs.Accepted.{IsLog, Accepts};
+ghost use Rattle.sat_core.specs.Trail.{literals, top};
+ghost use Rattle.sat_core.specs.Units.{IsConflict};
+ghost use Rattle.sat_core.specs.Analysis.{IsAnalysis};
+ghost use Rattle.sat_core.specs.Search.{AskedFirst, AddsLearned, AddsFinal};
+
+use crate::analysis::Analysis;
+use crate::search::Search;
+use sat_log::{AppendFault, LineKind, Log, LogLine, SLit};
+use std::alloc::{AllocError, Global};
+
+/// Appends a line that the log accepts.
+///
+/// # Errors
+///
+/// `AllocError` where memory is refused; the log stays as it was.
+fn append(log: &mut Log, line: LogLine) -> Result<u64, AllocError>
+    requires kind { line.kind ≢ LineKind.Original }
+    requires accepted { Accepts log.old line }
+    ensures ok { OnOk result (log.new ≡ log.old ++ line ∷ []) }
+    ensures id { IfOk result (λ id. id ≡ length log.new) }
+    ensures err { OnErr result (log.new ≡ log.old) }
+{
+    match log.append(line) {
+        Ok(id) => Ok(id),
+        Err(AppendFault::NoMemory(error)) => Err(error),
+        Err(AppendFault::NotAccepted) => unreachable!(),
+    }
+}
+
+/// Appends the clause of an analysis as a final line, and answers its id.
+///
+/// # Errors
+///
+/// `AllocError` where memory is refused; the log stays as it was.
+fn append_final(alloc: Global, log: &mut Log, analysis: &Analysis) -> Result<u64, AllocError>
+    requires { IsAnalysis log.old [] analysis.now }
+    ensures ok { OnOk result (log.new ≡ log.old ++ record { kind = LineKind.Final; lits = analysis.now.lits; hints = analysis.now.hints } ∷ []) }
+    ensures id { IfOk result (λ id. id ≡ length log.new) }
+    ensures err { OnErr result (log.new ≡ log.old) }
+{
+    let line = analysis.line(alloc, LineKind::Final)?;
+    append(log, line)
+}
+
+impl Search {
+    /// Learns the clause of a conflict above level 0, and jumps back to the latest level among its literals but the one that it
+    /// asserts.
+    ///
+    /// # Errors
+    ///
+    /// `AllocError` where memory is refused; all stays as it was.
+    pub(crate) fn learn(&mut self, conflict: u64) -> Result<(), AllocError>
+        requires log { IsLog self.old.log }
+        requires conflict { IsConflict self.old.log (literals self.old.entries) conflict }
+        requires above { 1 ≤ top self.old.entries }
+        ensures ok { OnOk result (AddsLearned self.old.log self.new.log) }
+        ensures err { OnErr result (self.new.log ≡ self.old.log) }
+        ensures asked { (want : List Literal) → AskedFirst want self.old.entries → AskedFirst want self.new.entries }
+        ensures variables { self.new.variables ≡ self.old.variables }
+    {
+        self.analysis.analyze(&self.log, &self.trail, conflict);
+        let line = self.analysis.line(self.alloc, LineKind::Conflict)?;
+        let level = self.analysis.jump_level(&self.trail);
+        append(&mut self.log, line)?;
+        self.trail.backjump(level);
+        Ok(())
+    }
+
+    /// Appends the final line of a conflict at level 0, and answers its id.
+    ///
+    /// # Errors
+    ///
+    /// `AllocError` where memory is refused; all stays as it was.
+    pub(crate) fn refute(&mut self, conflict: u64) -> Result<u64, AllocError>
+        requires log { IsLog self.old.log }
+        requires conflict { IsConflict self.old.log (literals self.old.entries) conflict }
+        requires level { top self.old.entries ≡ 0 }
+        ensures ok { (want : List Literal) → OnOk result (AddsFinal want self.old.log self.new.log) }
+        ensures id { IfOk result (λ id. id ≡ length self.new.log) }
+        ensures err { OnErr result (self.new.log ≡ self.old.log) }
+        ensures entries { self.new.entries ≡ self.old.entries }
+        ensures variables { self.new.variables ≡ self.old.variables }
+    {
+        self.analysis.refute(&self.log, &self.trail, conflict);
+        append_final(self.alloc, &mut self.log, &self.analysis)
+    }
+
+    /// Appends the final line for a wanted literal that is false, and answers its id.
+    ///
+    /// # Errors
+    ///
+    /// `AllocError` where memory is refused; all stays as it was.
+    pub(crate) fn refute_wanted(&mut self, wanted: SLit, want: &[SLit]) -> Result<u64, AllocError>
+        requires log { IsLog self.old.log }
+        requires distinct { HasDistinctVariables want.now }
+        requires wanted { Among want.now wanted }
+        requires false_ { Among (literals self.old.entries) (negated wanted) }
+        requires asked { AskedFirst want.now self.old.entries }
+        ensures ok { OnOk result (AddsFinal want.now self.old.log self.new.log) }
+        ensures id { IfOk result (λ id. id ≡ length self.new.log) }
+        ensures err { OnErr result (self.new.log ≡ self.old.log) }
+        ensures entries { self.new.entries ≡ self.old.entries }
+        ensures variables { self.new.variables ≡ self.old.variables }
+    {
+        self.analysis.refute_wanted(&self.log, &self.trail, wanted);
+        append_final(self.alloc, &mut self.log, &self.analysis)
+    }
+}
