@@ -1,6 +1,6 @@
 -- A learned clause: it is accepted, needed and drawn, and no unit is missed after the jump.
 use Rattle.std.proofs.Common.{◌≡◌, ◌≢◌, ℕ, ◌+◌, ◌<◌, ◌≤◌, Bool, true, false, cond, ltb, ◌⊎◌, inl, inr, List, [], ◌∷◌, ◌++◌, length, refl, ap, sym, subst, ◌∙◌, arith}
-use Rattle.std.specs.Prelude.{Option, None, Some, Result, Ok, Err, OnOk, OnErr, option_to_list}
+use Rattle.std.specs.Prelude.{Option, None, Some, Result, Ok, Err, OnOk, option_to_list}
 use Rattle.std.specs.List.{AllByRecursion}
 use Rattle.std.proofs.lemmas.List.{append-nil}
 use Rattle.std.proofs.lemmas.Bool.{cases_lt, lt-ltb, le-ltb}
@@ -54,7 +54,7 @@ before_before low high (e ∷ entries) h = by_level (cases_lt e.level high) (bef
     by_level (inr k) rest =
         ap (λ (b : Bool). before low (cond b (e ∷ entries) (before high entries))) (le-ltb e.level high k) ∙ rest ∙ sym (ap (λ (b : Bool). cond b (e ∷ entries) (before low entries)) (le-ltb e.level low (omega arith)))
 
-top_lower : (level : ℕ) (entries : List Entry) → AllByRecursion (λ f. f.level < level + 1) entries → top entries ≤ level
+pub top_lower : (level : ℕ) (entries : List Entry) → AllByRecursion (λ f. f.level < level + 1) entries → top entries ≤ level
 top_lower level [] h = omega arith
 top_lower level (e ∷ entries) h =
     let first = h.0 in

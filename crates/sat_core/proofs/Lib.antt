@@ -10,3 +10,6 @@ pub mod Visits
 pub mod Starts
 pub mod Searches
 pub mod Learning
+pub mod Meanings
+pub mod Steps
+pub mod Runs

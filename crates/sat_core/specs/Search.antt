@@ -1,5 +1,5 @@
 -- What a search keeps between its steps.
-use Rattle.std.specs.Prelude.{◌≡◌, ◌⊎◌, ◌<◌, ℕ, None, List, [], ◌∷◌, ◌++◌, length}
+use Rattle.std.specs.Prelude.{◌≡◌, ◌⊎◌, ◌<◌, ◌≤◌, ℕ, None, List, [], ◌∷◌, ◌++◌, length}
 use Rattle.std.specs.List.{AllByRecursion}
 use Rattle.sat_log.specs.Literal.{Literal, negated}
 use Rattle.sat_log.specs.Clause.{Among}
@@ -8,11 +8,14 @@ use Rattle.sat_log.specs.Learned.{IsNeeded, IsDrawn}
 use Rattle.sat_log.specs.Checking.{AreUpTo}
 use Rattle.sat_log.specs.declared.line.LineKind.TheVariants.{Conflict, Final}
 use Rattle.sat_log.specs.declared.line.LogLine.{LogLine}
-use Rattle.sat_core.specs.Trail.{Trailed, literals}
+use Rattle.sat_core.specs.Assignment.{IsSolution}
+use Rattle.sat_core.specs.Trail.{Trailed, literals, places}
 use Rattle.sat_core.specs.Units.{IsTrail, MissesNoUnit}
 use Rattle.sat_core.specs.Analysis.{Analyzed, IsUnmarked, AreNegationsOf}
 use Rattle.sat_core.specs.declared.trail.Entry.{Entry}
 use Rattle.sat_core.specs.declared.decide.Decision.{Decision}
+use Rattle.sat_core.specs.declared.search.Step.{Step}
+use Rattle.sat_core.specs.declared.search.Step.TheVariants.{Learned, Decided, Yes, No}
 use Rattle.sat_core.specs.declared.decide.Decision.TheVariants.{Made, False, Complete}
 
 -- how many variables there are, the log, and the entries of the trail
@@ -67,3 +70,10 @@ pub record AddsFinal (want : List Literal) (old new : List LogLine) : Type 0 whe
   pub kind : line.kind ≡ Final
   pub accepted : Accepts old line
   pub literals_are : AreNegationsOf want line.lits
+
+-- what comes of a step of a search
+abbrev pub StepsTo : List Literal → Searched → Searched → Step → Type 0
+StepsTo want old new Learned = AddsLearned old.log new.log
+StepsTo want old new Decided = (new.log ≡ old.log) × (length old.entries < length new.entries) × (length new.entries ≤ places new.variables)
+StepsTo want old new (Yes bits) = (new.log ≡ old.log) × IsSolution new.variables new.log want bits
+StepsTo want old new (No id) = (id ≡ length new.log) × AddsFinal want old.log new.log

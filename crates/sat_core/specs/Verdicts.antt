@@ -1,5 +1,5 @@
 -- Answers of a search by cases, and budgets.
-use Rattle.std.specs.Prelude.{◌<◌, ℕ, Bool, Result, Ok, Err, List}
+use Rattle.std.specs.Prelude.{◌<◌, ◌≤◌, ℕ, Bool, Result, Ok, Err, List}
 use Rattle.sat_core.specs.declared.budget.Budget.{Budget}
 use Rattle.sat_core.specs.declared.budget.Budget.TheVariants.{Unset, Of}
 use Rattle.sat_core.specs.declared.verdict.Verdict.{Verdict}
@@ -30,3 +30,8 @@ IfSpent (Ok (Yes bits)) P = Unit {0}
 IfSpent (Ok (No id)) P = Unit {0}
 IfSpent (Ok (Spent n)) P = P n
 IfSpent (Err e) P = Unit {0}
+
+-- no more conflicts than the budget
+abbrev pub IsWithin : Budget → ℕ → Type 0
+IsWithin Unset n = Unit {0}
+IsWithin (Of most) n = n ≤ most

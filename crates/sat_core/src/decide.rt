@@ -1,10 +1,10 @@
 //! Decisions: first what is wanted, then any variable that has no value.
 
-ghost use Rattle.std.specs.Prelude.{◌≡◌, ◌≢◌, ◌<◌, length, IfSome, IfNone};
+ghost use Rattle.std.specs.Prelude.{◌≡◌, ◌≢◌, ◌<◌, ◌≤◌, length, IfSome, IfNone};
 ghost use Rattle.sat_log.specs.Clause.{Among};
 ghost use Rattle.sat_log.specs.Accepted.{clauses};
 ghost use Rattle.sat_log.specs.Checking.{IsUpTo};
-ghost use Rattle.sat_core.specs.Trail.{literals, AreAllSet};
+ghost use Rattle.sat_core.specs.Trail.{literals, AreAllSet, places};
 ghost use Rattle.sat_core.specs.Units.{AreQuiet};
 ghost use Rattle.sat_core.specs.Search.{AreAmong, AskedFirst, IsDecided};
 
@@ -47,6 +47,7 @@ impl Search {
         ensures decided { IsDecided want.now self.old.entries result }
         ensures complete { result ≡ Decision.Complete → AreAllSet self.old.variables (literals self.old.entries) }
         ensures longer { result ≡ Decision.Made → length self.old.entries < length self.new.entries }
+        ensures room { result ≡ Decision.Made → length self.new.entries ≤ places self.new.variables }
         ensures same { result ≢ Decision.Made → self.new.entries ≡ self.old.entries }
         ensures asked { AskedFirst want.now self.new.entries }
         ensures log { self.new.log ≡ self.old.log }

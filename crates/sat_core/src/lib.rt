@@ -9,6 +9,7 @@ mod analysis;
 mod analyze;
 mod budget;
 mod decide;
+pub mod laws;
 mod learn;
 mod propagate;
 mod sbits;

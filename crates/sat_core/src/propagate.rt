@@ -92,6 +92,7 @@ fn scan(log: &Log, trail: &mut Trail) -> Pass
     ensures trail { IsTrail log.now trail.new.entries }
     ensures implied { AddsImplied trail.old.entries trail.new.entries }
     ensures variables { trail.new.variables ≡ trail.old.variables }
+    ensures log { IsLog log.now }
 {
     let mut extended = false;
     for i in 0..log.count() {
@@ -117,6 +118,7 @@ pub(crate) fn propagate(log: &Log, trail: &mut Trail) -> Option<u64>
     ensures trail { IsTrail log.now trail.new.entries }
     ensures implied { AddsImplied trail.old.entries trail.new.entries }
     ensures variables { trail.new.variables ≡ trail.old.variables }
+    ensures log { IsLog log.now }
 {
     loop {
         match scan(log, trail) {

@@ -18,6 +18,13 @@ impl Model for SBits {
 }
 
 impl SBits {
+    /// The values of the variables 1, 2 and so on.
+    pub(crate) fn new(values: Vec<bool>) -> SBits
+        ensures { result ≡ values.items }
+    {
+        SBits { values }
+    }
+
     /// The value of a variable.
     pub fn value(&self, var: u64) -> bool
         requires first { 1 ≤ var }

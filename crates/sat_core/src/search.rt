@@ -1,20 +1,40 @@
 //! The search: propagation, decisions, and what is learned from conflicts (Eén and Sörensson 2003).
 
-ghost use Rattle.std.specs.Prelude.{◌≡◌, ◌≢◌, ◌+◌, ◌<◌, ◌≤◌, ◌++◌, ◌∷◌, [], List, length, Some, IfOk, IfSome, IfNone, OnOk, OnErr};
-ghost use Rattle.sat_log.specs.Literal.{Literal, negated};
-ghost use Rattle.sat_log.specs.Clause.{Among, HasDistinctVariables};
-ghost use Rattle.sat_log.specs.Accepted.{IsLog, Accepts, clauses};
+ghost use Rattle.std.specs.Prelude.{◌≡◌, ◌≢◌, ◌+◌, ◌<◌, ◌≤◌, ◌++◌, ◌∷◌, [], List, length, IfOk, IfSome, IfNone, OnOk, OnErr};
+ghost use Rattle.sat_log.specs.Literal.{Literal};
+ghost use Rattle.sat_log.specs.Clause.{HasDistinctVariables};
+ghost use Rattle.sat_log.specs.Accepted.{IsLog, clauses};
 ghost use Rattle.sat_log.specs.Checking.{IsUpTo, AreUpTo};
 ghost use Rattle.sat_log.specs.Kept.{original};
-ghost use Rattle.sat_core.specs.Trail.{literals, top, before, AreAllSet};
+ghost use Rattle.sat_core.specs.Assignment.{assignment, AreTrue, IsSolution, HasNoSolution};
+ghost use Rattle.sat_core.specs.Gained.{gained, conflicts, IsLonger, HasNoOriginal, HasNoFinal, AreLearned, IsRefusal};
+ghost use Rattle.sat_core.specs.Verdicts.{IfYes, IfNo, IfSpent, IsBelow};
+ghost use Rattle.sat_core.specs.Trail.{literals, top};
 ghost use Rattle.sat_core.specs.Units.{IsConflict, AreQuiet};
-ghost use Rattle.sat_core.specs.Search.{AreAmong, AskedFirst, IsDecided, AddsLearned};
+ghost use Rattle.sat_core.specs.Search.{AskedFirst, StepsTo};
 
 use crate::analysis::Analysis;
+use crate::decide::Decision;
+use crate::laws::{final_line_refutes, learned_lines_are_few};
+use crate::propagate::propagate;
 use crate::trail::Trail;
-use sat_log::{AppendFault, LineKind, Log, LogLine, SLit, SLits};
+use crate::{Budget, SBits, Verdict};
+use sat_log::{Log, SLit, SLits};
 use std::alloc::{AllocError, Global};
 use std::marker::Model;
+
+/// What comes of one step of a search.
+#[derive(Debug, Drop)]
+enum Step {
+    /// A clause was learned.
+    Learned,
+    /// A literal was decided.
+    Decided,
+    /// All that is wanted is true under these values.
+    Yes(SBits),
+    /// It can't be, by the final line of this id.
+    No(u64),
+}
 
 /// The log, the trail, and what conflict analysis works in.
 #[derive(Debug, Drop)]
@@ -95,5 +115,124 @@ impl Search {
         ensures err { OnErr result (self.new ≡ self.old) }
     {
         self.log.add_original(lits)
+    }
+
+    /// How many lines the log has.
+    fn lines(&self) -> u64
+        ensures count { result ≡ length self.now.log }
+        ensures log { IsLog self.now.log }
+        ensures exist { AreUpTo self.now.variables self.now.log }
+    {
+        self.log.count()
+    }
+
+    /// How many levels are open.
+    fn level(&self) -> u64
+        ensures { result ≡ top self.now.entries }
+    {
+        self.trail.level()
+    }
+
+    /// The value of each variable.
+    ///
+    /// # Errors
+    ///
+    /// `AllocError` where memory is refused.
+    fn values(&self) -> Result<SBits, AllocError>
+        ensures one_each { IfOk result (λ bits. length bits ≡ self.now.variables) }
+        ensures true_ { IfOk result (λ bits. AreTrue (assignment bits) (literals self.now.entries)) }
+    {
+        Ok(SBits::new(self.trail.values(self.alloc)?))
+    }
+
+    /// Goes back to level 0.
+    pub(crate) fn reset(&mut self)
+        ensures level { top self.new.entries ≡ 0 }
+        ensures asked { (want : List Literal) → AskedFirst want self.new.entries }
+        ensures log { self.new.log ≡ self.old.log }
+        ensures variables { self.new.variables ≡ self.old.variables }
+    {
+        self.trail.backjump(0);
+    }
+
+    /// Makes true what unit clauses imply. Answers the id of a clause that is false, if one is.
+    fn propagate(&mut self) -> Option<u64>
+        ensures conflict { IfSome result (IsConflict self.new.log (literals self.new.entries)) }
+        ensures quiet { IfNone result (AreQuiet (literals self.new.entries) (clauses self.new.log)) }
+        ensures asked { (want : List Literal) → AskedFirst want self.old.entries → AskedFirst want self.new.entries }
+        ensures longer { length self.old.entries ≤ length self.new.entries }
+        ensures log { self.new.log ≡ self.old.log }
+        ensures is_log { IsLog self.new.log }
+        ensures exist { AreUpTo self.new.variables self.new.log }
+        ensures variables { self.new.variables ≡ self.old.variables }
+    {
+        propagate(&self.log, &mut self.trail)
+    }
+
+    /// One step of a search: propagation, and then a clause that is learned, a decision, or an answer.
+    ///
+    /// # Errors
+    ///
+    /// `AllocError` where memory is refused; the log stays as it was.
+    fn step(&mut self, want: &[SLit]) -> Result<Step, AllocError>
+        requires distinct { HasDistinctVariables want.now }
+        requires exist { IsUpTo self.old.variables want.now }
+        requires asked { AskedFirst want.now self.old.entries }
+        ensures step { IfOk result (StepsTo want.now self.old self.new) }
+        ensures err { OnErr result (self.new.log ≡ self.old.log) }
+        ensures asked { AskedFirst want.now self.new.entries }
+        ensures variables { self.new.variables ≡ self.old.variables }
+    {
+        match self.propagate() {
+            Some(conflict) if self.level() == 0 => Ok(Step::No(self.refute(conflict)?)),
+            Some(conflict) => {
+                self.learn(conflict)?;
+                Ok(Step::Learned)
+            }
+            None => match self.decide(want) {
+                Decision::Made => Ok(Step::Decided),
+                Decision::False(wanted) => Ok(Step::No(self.refute_wanted(wanted, want)?)),
+                Decision::Complete => Ok(Step::Yes(self.values()?)),
+            },
+        }
+    }
+
+    /// Searches from level 0 until there is an answer.
+    ///
+    /// # Errors
+    ///
+    /// `AllocError` where memory is refused; what was learned stays.
+    pub(crate) fn run(&mut self, want: &[SLit], budget: Budget) -> Result<Verdict, AllocError>
+        requires distinct { HasDistinctVariables want.now }
+        requires exist { IsUpTo self.old.variables want.now }
+        ensures yes { IfYes result (IsSolution self.new.variables self.new.log want.now) }
+        ensures no { IfNo result (IsRefusal self.old.log self.new.log want.now) }
+        ensures refuted { IfNo result (λ _. HasNoSolution self.new.log want.now) }
+        ensures spent { IfSpent result (λ n. budget ≡ Budget.Of n) }
+        ensures spent_all { IfSpent result (λ n. conflicts (gained self.old.log self.new.log) ≡ n) }
+        ensures yes_within { IfYes result (λ _. IsBelow budget (conflicts (gained self.old.log self.new.log))) }
+        ensures no_within { IfNo result (λ _. IsBelow budget (conflicts (gained self.old.log self.new.log))) }
+        ensures longer { IsLonger self.old.log self.new.log }
+        ensures no_original { HasNoOriginal (gained self.old.log self.new.log) }
+        ensures learned { AreLearned self.old.log (gained self.old.log self.new.log) }
+        ensures yes_final { IfYes result (λ _. HasNoFinal (gained self.old.log self.new.log)) }
+        ensures spent_final { IfSpent result (λ _. HasNoFinal (gained self.old.log self.new.log)) }
+        ensures variables { self.new.variables ≡ self.old.variables }
+    {
+        // By these laws the loop ends, and a final line refutes what is wanted.
+        learned_lines_are_few();
+        final_line_refutes();
+        self.reset();
+        let start = self.lines();
+        let mut learned = 0;
+        while budget.allows(learned) {
+            match self.step(want)? {
+                Step::Learned | Step::Decided => {}
+                Step::Yes(bits) => return Ok(Verdict::Yes(bits)),
+                Step::No(id) => return Ok(Verdict::No(id)),
+            }
+            learned = self.lines() - start;
+        }
+        Ok(Verdict::Spent(learned))
     }
 }

@@ -6,7 +6,8 @@ ghost use Rattle.sat_core.specs.Assignment.{IsSolution, HasNoSolution};
 ghost use Rattle.sat_core.specs.Gained.{gained, conflicts, IsLonger, HasNoOriginal, HasNoFinal, AreLearned, IsRefusal};
 ghost use Rattle.sat_core.specs.Verdicts.{IfYes, IfNo, IfSpent, IsBelow};
 
-use crate::{Budget, SBits, Verdict};
+use crate::search::Search;
+use crate::{Budget, Verdict};
 use sat_log::{Log, SLits};
 use std::alloc::{AllocError, Global};
 use std::marker::Model;
@@ -15,19 +16,19 @@ use std::marker::Model;
 /// each conflict (Marques-Silva and Sakallah 1996), and appends it to its log.
 #[derive(Debug, Drop)]
 pub struct Solver {
-    variables: u64,
-    log: Log,
+    search: Search,
 }
 
 impl Model for Solver {
-    ghost use Rattle.sat_log.specs.Checking.{AreUpTo};
+    ghost use Rattle.std.specs.Prelude.{◌≡◌};
     ghost use Rattle.sat_core.specs.Contents.{Contents};
+    ghost use Rattle.sat_core.specs.Trail.{top};
 
     ghost Value = { Contents };
 
-    ghost view = { λ s. record { variables = s.variables; log = s.log } };
+    ghost view = { λ s. record { variables = s.search.variables; log = s.search.log } };
 
-    ghost invariant = { λ s. AreUpTo s.variables s.log };
+    ghost invariant = { λ s. top s.search.entries ≡ 0 };
 }
 
 impl Solver {
@@ -40,8 +41,7 @@ impl Solver {
         ensures { IfOk result (λ s. s ≡ record { variables = 0; log = [] }) }
     {
         Ok(Solver {
-            variables: 0,
-            log: Log::new(alloc)?,
+            search: Search::new(alloc)?,
         })
     }
 
@@ -55,7 +55,8 @@ impl Solver {
         ensures var { IfOk result (λ var. var ≡ self.new.variables) }
         ensures err { OnErr result (self.new ≡ self.old) }
     {
-        Err(AllocError)
+        self.search.add_variable()?;
+        Ok(self.search.variables())
     }
 
     /// Adds a clause, and answers the id of its line in the log.
@@ -71,7 +72,7 @@ impl Solver {
         ensures id { IfOk result (λ id. id ≡ length self.new.log) }
         ensures err { OnErr result (self.new ≡ self.old) }
     {
-        Err(AllocError)
+        self.search.add_clause(lits)
     }
 
     /// How many variables there are. No other stands in the log.
@@ -79,14 +80,14 @@ impl Solver {
         ensures count { result ≡ self.now.variables }
         ensures within { AreUpTo self.now.variables self.now.log }
     {
-        self.variables
+        self.search.variables()
     }
 
     /// The clauses, and what was learned from them.
     pub fn log(&self) -> &Log
         ensures { result.now ≡ self.now.log }
     {
-        &self.log
+        self.search.log()
     }
 
     /// Says whether the clauses and all literals of `want` can be true together.
@@ -114,7 +115,8 @@ impl Solver {
         ensures spent_final { IfSpent result (λ _. HasNoFinal (gained self.old.log self.new.log)) }
         ensures variables { self.new.variables ≡ self.old.variables }
     {
-        let _asked = (want.len(), budget);
-        Err(AllocError)
+        let verdict = self.search.run(want.as_slice(), budget);
+        self.search.reset();
+        verdict
     }
 }

@@ -1,4 +1,4 @@
-use Rattle.std.proofs.Common.{◌≡◌, ◌∷◌, [], ◌++◌, ap, sym, subst, ◌∙◌}
+use Rattle.std.proofs.Common.{ap, sym, subst, ◌∙◌}
 use Rattle.sat_log.specs.declared.line.LineKind.TheVariants.{Final}
 use Rattle.sat_core.specs.Trail.{top}
 use Rattle.sat_core.specs.Search.{Searched, KeepsSearch, AddsFinal}

@@ -1,4 +1,4 @@
-use Rattle.std.proofs.Common.{◌≡◌, ◌∷◌, [], ◌++◌, ap, sym, subst, ◌∙◌}
+use Rattle.std.proofs.Common.{sym, subst}
 use Rattle.sat_log.specs.Literal.{negated}
 use Rattle.sat_log.specs.Clause.{Among}
 use Rattle.sat_log.specs.declared.line.LineKind.TheVariants.{Final}
