@@ -1,0 +1,4 @@
+pub mod Encoding
+pub mod Definitional
+pub mod Contents
+pub mod Answers
