@@ -60,8 +60,7 @@ impl Kept {
 
     /// How many nodes have their clauses.
     fn nodes(&self) -> u64
-        ensures count { result ≡ length self.now.nodes }
-        ensures definitional { IsDefinitional self.now.nodes (originals self.now.log) }
+        ensures { result ≡ length self.now.nodes }
     {
         self.nodes.len() as u64
     }
