@@ -23,8 +23,8 @@ last_clauses n [] = []
 last_clauses n (y ∷ []) = clauses_of n y
 last_clauses n (y ∷ z ∷ nodes) = last_clauses (n + 1) (z ∷ nodes)
 
--- Each node stands where it may and has a variable, and the originals are the clauses of all nodes, but that of
--- those of the last node only the first ones were added.
+-- Each node stands where it may and has a variable. The originals are the clauses of all nodes, but of the last
+-- node only the first that were added.
 pub record KeepsClauses (nodes : List Node) (added : ℕ) (solver : SolverContents) : Type 0 where
   pub placed : (n : ℕ) → n < length nodes → StandsAt n (node_at nodes n)
   pub variables : solver.variables ≡ length nodes

@@ -4,7 +4,7 @@ ghost use Rattle.sat_log.specs.Clause.{HasDistinctVariables};
 ghost use Rattle.sat_log.specs.Checking.{IsUpTo};
 ghost use Rattle.sat_log.specs.Accepted.{originals};
 ghost use Rattle.sat_core.specs.Assignment.{IsSolution as IsAssignment, HasNoSolution as HasNoAssignment};
-ghost use Rattle.sat_core.specs.Gained.{gained, conflicts, IsLonger, HasNoOriginal, HasNoFinal, AreLearned, IsRefusal};
+ghost use Rattle.sat_core.specs.Gained.{gained, conflicts, IsLonger, HasNoFinal, AreLearned, IsRefusal};
 ghost use Rattle.sat_core.specs.Verdicts.{IfYes as IfFoundYes, IfNo as IfFoundNo, IfSpent as IfFoundSpent, IsBelow};
 ghost use Rattle.sat_link.specs.Encoding.{all_encoded, definitions};
 ghost use Rattle.sat_link.specs.Definitional.{IsDefinitional, IsWhole};
@@ -99,6 +99,7 @@ impl Kept {
         self.added = 0;
         Ok(())
     }
+
     /// Gives each node of the gates its clauses.
     fn define(&mut self, g: &Gates) -> Result<(), AllocError>
         requires prefix { Grows self.old.nodes g.now }
