@@ -1,37 +1,59 @@
-ghost use Rattle.std.specs.Prelude.{◌≡◌, OnOk};
-ghost use Rattle.gates.specs.Nodes.{Belongs, AllBelong, Grows};
-ghost use Rattle.sat_link.specs.Answers.{HasDistinctNodes};
+ghost use Rattle.gates.specs.Nodes.{Grows};
 
 use super::*;
 use gates::{Gates, Lit, Lits, lit_not};
-use std::alloc::AllocError;
+use std::alloc::{AllocError, Global};
 use std::test::Fail;
 
-/// Whether the answer is No, by the last line of the log.
-fn is_refused(kept: &mut Kept, g: &Gates, want: &Lits) -> Result<bool, AllocError>
-    requires distinct { HasDistinctNodes want.now }
-    requires exist { AllBelong g.now want.now }
-    requires prefix { Grows kept.old.nodes g.now }
-    ensures { OnOk result (kept.new.nodes ≡ g.now) }
+/// Two inputs, and their conjunction.
+#[derive(Drop)]
+struct Joined {
+    g: Gates,
+    a: Lit,
+    b: Lit,
+    both: Lit,
+}
+
+fn two_inputs(alloc: Global) -> Result<Joined, AllocError> {
+    let mut g = Gates::new(alloc)?;
+    let a = g.input()?;
+    let b = g.input()?;
+    if a.node() >= g.nodes() || b.node() >= g.nodes() {
+        return Err(AllocError);
+    }
+    let both = g.and(a, b)?;
+    Ok(Joined { g, a, b, both })
+}
+
+/// Whether the conjunction and the negation of an input are refused, by the last line of the log.
+fn is_refused(alloc: Global, kept: &mut Kept, j: &Joined) -> Result<bool, AllocError>
+    requires { Grows kept.old.nodes j.now.g }
+    ensures { Grows kept.new.nodes j.now.g }
 {
-    match kept.ask(g, want, Budget::Unset)? {
+    let nodes = j.g.nodes();
+    if j.a.node() >= nodes || j.both.node() >= nodes || j.a.node() == j.both.node() {
+        return Ok(false);
+    }
+    let want = Lits::from_vec(vec![in alloc; j.both, lit_not(j.a)]?);
+    match kept.ask(&j.g, &want, Budget::Unset)? {
         Verdict::Yes(_) => Ok(false),
         Verdict::No(id) => Ok(id == kept.log().count()),
         Verdict::Spent(_) => Ok(false),
     }
 }
 
-/// Whether the answer is Yes, with both literals true.
-fn is_found(kept: &mut Kept, g: &Gates, want: &Lits, a: Lit, b: Lit) -> Result<bool, AllocError>
-    requires distinct { HasDistinctNodes want.now }
-    requires exist { AllBelong g.now want.now }
-    requires prefix { Grows kept.old.nodes g.now }
-    requires first { Belongs g.now a }
-    requires second { Belongs g.now b }
-    ensures { OnOk result (kept.new.nodes ≡ g.now) }
+/// Whether both inputs are true where the conjunction is wanted.
+fn is_found(alloc: Global, kept: &mut Kept, j: &Joined) -> Result<bool, AllocError>
+    requires { Grows kept.old.nodes j.now.g }
+    ensures { Grows kept.new.nodes j.now.g }
 {
-    match kept.ask(g, want, Budget::Of(1))? {
-        Verdict::Yes(bits) => Ok(bits.value(a) && bits.value(b)),
+    let nodes = j.g.nodes();
+    if j.a.node() >= nodes || j.b.node() >= nodes || j.both.node() >= nodes {
+        return Ok(false);
+    }
+    let want = Lits::from_vec(vec![in alloc; j.both]?);
+    match kept.ask(&j.g, &want, Budget::Of(1))? {
+        Verdict::Yes(bits) => Ok(bits.value(j.a) && bits.value(j.b)),
         Verdict::No(_) => Ok(false),
         Verdict::Spent(_) => Ok(false),
     }
@@ -40,19 +62,10 @@ fn is_found(kept: &mut Kept, g: &Gates, want: &Lits, a: Lit, b: Lit) -> Result<b
 #[test]
 fn conjunction_of_two_inputs(rt: HostRuntime) -> Result<(), Fail> {
     let alloc = rt.alloc();
-    let mut g = Gates::new(alloc)?;
-    let a = g.input()?;
-    let b = g.input()?;
-    let both = g.and(a, b)?;
-    assert!(rt; a.node() < g.nodes());
-    assert!(rt; b.node() < g.nodes());
-    assert!(rt; both.node() < g.nodes());
-    assert!(rt; a.node() != both.node());
+    let j = two_inputs(alloc)?;
     let mut kept = Kept::new(alloc)?;
-    let want = Lits::from_vec(vec![in alloc; both, lit_not(a)]?);
-    assert!(rt; is_refused(&mut kept, &g, &want)?);
-    let want = Lits::from_vec(vec![in alloc; both]?);
-    assert!(rt; is_found(&mut kept, &g, &want, a, b)?);
+    assert!(rt; is_refused(alloc, &mut kept, &j)?);
+    assert!(rt; is_found(alloc, &mut kept, &j)?);
     assert!(rt; kept.counts().clauses == 4);
     Ok(())
 }
