@@ -55,7 +55,7 @@ has_variable [] l m = absurd m
 has_variable (e ∷ entries) l (inl same) = inl (ap (λ (k : Literal). k.var) same)
 has_variable (e ∷ entries) l (inr m) = inr (has_variable entries l m)
 
-distinct_push : (xs : List Literal) (x : Literal) → HasDistinctVariables xs → AllByRecursion (λ l. l.var ≢ x.var) xs → HasDistinctVariables (xs ++ x ∷ [])
+pub distinct_push : (xs : List Literal) (x : Literal) → HasDistinctVariables xs → AllByRecursion (λ l. l.var ≢ x.var) xs → HasDistinctVariables (xs ++ x ∷ [])
 distinct_push [] x d a = (tt, tt)
 distinct_push (y ∷ xs) x d a =
     (All-append (λ k. k.var ≢ y.var) xs (x ∷ []) d.0 ((λ e. a.0 (sym e)), tt), distinct_push xs x d.1 a.1)
