@@ -1,13 +1,14 @@
 -- What a log gains where originals are added before a search.
-use Rattle.std.proofs.Common.{◌≡◌, ◌≢◌, ℕ, cond, List, [], ◌∷◌, ◌++◌, length, drop, refl, sym, ap, subst, ◌∙◌, append_assoc, arith}
+use Rattle.std.proofs.Common.{◌≡◌, ◌≢◌, List, [], ◌∷◌, ◌++◌, length, drop, refl, sym, ap, subst, ◌∙◌, append_assoc}
+use Rattle.std.specs.Prelude.{option_to_list}
 use Rattle.std.specs.List.{AllByRecursion}
 use Rattle.std.proofs.Math.Seq.{drop-append_seam}
 use Rattle.std.proofs.lemmas.List.{append-nil}
-use Rattle.std.proofs.lemmas.List.Sums.{sum_by-cons}
+use Rattle.sat_log.specs.Learned.{learned, conflicts as conflict_clauses}
 use Rattle.sat_log.specs.declared.line.LineKind.{LineKind}
 use Rattle.sat_log.specs.declared.line.LineKind.TheVariants.{Original, Conflict, Final}
 use Rattle.sat_log.specs.declared.line.LogLine.{LogLine}
-use Rattle.sat_core.specs.Gained.{gained, IsLonger, names_conflict, conflicts, HasNoFinal, IsLearned, AreLearned}
+use Rattle.sat_core.specs.Gained.{gained, IsLonger, conflicts, HasNoFinal, IsLearned, AreLearned}
 use Rattle.sat_link.specs.Contents.{AddsOriginals}
 
 original_not : (k other : LineKind) → k ≡ Original → Original ≢ other → k ≢ other
@@ -49,8 +50,7 @@ learned_only old mid adds =
 no_conflicts : (added more : List LogLine) → AllByRecursion (λ line. line.kind ≡ Original) added → conflicts (added ++ more) ≡ conflicts more
 no_conflicts [] more h = refl
 no_conflicts (line ∷ added) more h =
-    let none : cond (names_conflict line.kind) 1 0 ≡ 0 = ap (λ k. cond {A = ℕ} (names_conflict k) 1 0) h.0 in
-    sum_by-cons (λ (x : LogLine). cond {A = ℕ} (names_conflict x.kind) 1 0) line (added ++ more) ∙ omega (arith, none, no_conflicts added more h.1)
+    ap (λ k. length (option_to_list (learned k line.lits) ++ conflict_clauses (added ++ more))) h.0 ∙ no_conflicts added more h.1
 
 pub conflicts_after : (old mid new : List LogLine) → AddsOriginals old mid → IsLonger mid new → conflicts (gained mid new) ≡ conflicts (gained old new)
 conflicts_after old mid new adds longer =
