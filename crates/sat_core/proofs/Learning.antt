@@ -14,13 +14,13 @@ use Rattle.sat_log.specs.declared.line.LineKind.TheVariants.{Conflict, Final}
 use Rattle.sat_log.specs.declared.line.LogLine.{LogLine}
 use Rattle.sat_core.specs.Trail.{Trailed, literals, top, before}
 use Rattle.sat_core.specs.Units.{HasCause, AreDecided, IsTrail, IsQuiet, AreQuiet, MissesNoUnit}
-use Rattle.sat_core.specs.Analysis.{Analyzed, IsAnalysis, IsAsserting, AreNegationsOf}
+use Rattle.sat_core.specs.Analysis.{Analyzed, IsAnalysis, IsAsserting, IsAsserted, AreNegationsOf}
 use Rattle.sat_core.specs.Search.{KeepsSearch, AreAmong, AskedFirst, AddsLearned, AddsFinal, IsJump}
 use Rattle.sat_core.proofs.Literals.{All-among}
 use Rattle.sat_core.proofs.Logs.{All-append, named_up_to, clauses_push}
 use Rattle.sat_core.proofs.Trails.{consistent}
 use Rattle.sat_core.proofs.Walks.{All-map, finish, finish_clear}
-use Rattle.sat_core.proofs.Levels.{trail_distinct, top_most, All-before, before_lower, unset_before}
+use Rattle.sat_core.proofs.Levels.{among_earlier, trail_distinct, top_most, All-before, before_lower, unset_before}
 use Rattle.sat_core.proofs.Searches.{trail_stays}
 use Rattle.sat_core.specs.declared.trail.Entry.{Entry}
 
@@ -59,14 +59,6 @@ top_lower level [] h = omega arith
 top_lower level (e ∷ entries) h =
     let first = h.0 in
     omega arith
-
-among_earlier : (level : ℕ) (entries : List Entry) (l : Literal) → Among (literals (before level entries)) l → Among (literals entries) l
-among_earlier level [] l m = m
-among_earlier level (e ∷ entries) l m = by_level (ltb e.level level) m (among_earlier level entries l)
-  where
-    by_level : (b : Bool) → Among (literals (cond b (e ∷ entries) (before level entries))) l → (Among (literals (before level entries)) l → Among (literals entries) l) → Among (literals (e ∷ entries)) l
-    by_level true m rest = m
-    by_level false m rest = inr (rest m)
 
 -- what is unset before a level is so before an earlier one
 unset_earlier : (low high : ℕ) (entries : List Entry) (l : Literal) → low ≤ high → IsUnset (literals (before high entries)) l → IsUnset (literals (before low entries)) l
@@ -149,6 +141,30 @@ module _ (log : List LogLine) (entries : List Entry) (a : Analyzed) (t : IsTrail
       let all : clauses (log ++ record { kind = kind; lits = a.lits; hints = a.hints } ∷ []) ≡ clauses log ++ a.lits ∷ [] =
       clauses_push log (record { kind = kind; lits = a.lits; hints = a.hints }) ∙ ap (λ (k : LineKind). clauses log ++ option_to_list (hinted k a.lits)) conflict in
       rw (same, all) (All-append (IsQuiet (literals (before level entries))) (clauses log) (a.lits ∷ []) old (inr two.1, tt))
+
+-- what is false at levels up to that of the jump is false after it
+among_up_to : (jump : ℕ) (entries : List Entry) (o : Literal) → AllByRecursion (λ e. e.literal.var ≡ o.var → e.level ≡ jump) entries → Among (literals entries) (negated o) → Among (literals (before (jump + 1) entries)) (negated o)
+among_up_to jump [] o same m = m
+among_up_to jump (e ∷ entries) o same m = by_level (cases_lt e.level (jump + 1)) m (among_up_to jump entries o same.1)
+  where
+    by_level : (e.level < jump + 1) ⊎ (jump + 1 ≤ e.level) → Among (literals (e ∷ entries)) (negated o) → (Among (literals entries) (negated o) → Among (literals (before (jump + 1) entries)) (negated o)) → Among (literals (before (jump + 1) (e ∷ entries))) (negated o)
+    by_level (inl k) m rest =
+        subst (λ (es : List Entry). Among (literals es) (negated o)) (sym (ap (λ (b : Bool). cond b (e ∷ entries) (before (jump + 1) entries)) (lt-ltb e.level (jump + 1) k))) m
+    by_level (inr k) (inl here) rest =
+        let level_is = same.0 (ap (λ (l : Literal). l.var) here) in
+        absurd (omega arith)
+    by_level (inr k) (inr m) rest =
+        subst (λ (es : List Entry). Among (literals es) (negated o)) (sym (ap (λ (b : Bool). cond b (e ∷ entries) (before (jump + 1) entries)) (le-ltb e.level (jump + 1) k))) (rest m)
+
+-- after the jump the clause asserts its first literal
+pub jump_asserts : (log : List LogLine) (entries : List Entry) (lits : List Literal) (jump : ℕ) → IsTrail log entries → 1 ≤ top entries → IsAsserting (top entries) entries 0 lits → IsJump entries lits jump → IsAsserted (literals (before (jump + 1) entries)) lits
+jump_asserts log entries [] jump t above asserting j = absurd (omega arith)
+jump_asserts log entries (u ∷ []) jump t above asserting j =
+    (unset_earlier (jump + 1) (top entries) entries u (omega arith) asserting.1, tt)
+jump_asserts log entries (u ∷ o ∷ others) jump t above asserting j =
+    let below : jump < top entries = level_below (top entries) jump (before (top entries) entries) o (before_lower log (top entries) entries t) (All-before (λ e. e.literal.var ≡ o.var → e.level ≡ jump) (top entries) entries j) asserting.2.0 in
+    let first = among_up_to jump entries o j (among_earlier (top entries) entries (negated o) asserting.2.0) in
+    (unset_earlier (jump + 1) (top entries) entries u (omega arith) asserting.1, (first, asserting.3 (jump + 1) first))
 
 -- what is kept, where nothing is marked any more
 pub keeps_marks : (log : List LogLine) (trail : Trailed) (old new : Analyzed) → KeepsSearch log trail old → IsAnalysis log [] new → length new.seen ≡ length old.seen → KeepsSearch log trail new

@@ -8,7 +8,7 @@ use Rattle.sat_log.specs.Clause.{Among, IsUnset, IsFalsified, HasDistinctVariabl
 use Rattle.sat_log.specs.declared.line.LogLine.{LogLine}
 use Rattle.sat_core.specs.Trail.{literals, top, before}
 use Rattle.sat_core.specs.Units.{HasCause, IsTrail, IsQuiet}
-use Rattle.sat_core.specs.Analysis.{is_marked, IsMarked, IsUnmarked, marked_at, IsAsserting}
+use Rattle.sat_core.specs.Analysis.{is_marked, IsMarked, IsUnmarked, marked_at, IsAsserting, IsLatestFirst}
 use Rattle.sat_core.proofs.Literals.{negated-negated, apart_not_among, All-among}
 use Rattle.sat_core.proofs.Logs.{All-append, All-back}
 use Rattle.sat_core.proofs.Marks.{marked_other}
@@ -78,6 +78,34 @@ before_has level (a ∷ above) e rest h = by_level (ltb a.level level) (before_h
     by_level : (b : Bool) → Among (literals (before level (above ++ e ∷ rest))) e.literal → Among (literals (cond b (a ∷ (above ++ e ∷ rest)) (before level (above ++ e ∷ rest)))) e.literal
     by_level true m = inr (among_back above e rest)
     by_level false m = m
+
+pub among_earlier : (level : ℕ) (entries : List Entry) (l : Literal) → Among (literals (before level entries)) l → Among (literals entries) l
+among_earlier level [] l m = m
+among_earlier level (e ∷ entries) l m = by_level (ltb e.level level) m (among_earlier level entries l)
+  where
+    by_level : (b : Bool) → Among (literals (cond b (e ∷ entries) (before level entries))) l → (Among (literals (before level entries)) l → Among (literals entries) l) → Among (literals (e ∷ entries)) l
+    by_level true m rest = m
+    by_level false m rest = inr (rest m)
+
+among_below : (above tail : List Entry) (l : Literal) → Among (literals tail) l → Among (literals (above ++ tail)) l
+among_below [] tail l m = m
+among_below (a ∷ above) tail l m = inr (among_below above tail l m)
+
+-- what is true before a level above some entry is there with all that is below
+before_holds : (level : ℕ) (above tail : List Entry) (k x : Literal) → Among (literals (before level (above ++ tail))) k → ¬ Among (literals tail) k → Among (literals tail) x → Among (literals (before level (above ++ tail))) x
+before_holds level [] tail k x m out n = absurd (out (among_earlier level tail k m))
+before_holds level (a ∷ above) tail k x m out n = by_level (ltb a.level level) m (before_holds level above tail k x)
+  where
+    by_level : (b : Bool) → Among (literals (cond b (a ∷ (above ++ tail)) (before level (above ++ tail)))) k → (Among (literals (before level (above ++ tail))) k → ¬ Among (literals tail) k → Among (literals tail) x → Among (literals (before level (above ++ tail))) x) → Among (literals (cond b (a ∷ (above ++ tail)) (before level (above ++ tail)))) x
+    by_level true m rest = inr (among_below above tail x n)
+    by_level false m rest = rest m out n
+
+-- a literal of the clause is not false in a part of the trail that is apart from the clause
+not_below : (lits : List Literal) (tail : List Entry) (o : Literal) → AllByRecursion (λ f. AllByRecursion (λ l. l.var ≢ f.literal.var) lits) tail → Among lits o → ¬ Among (literals tail) (negated o)
+not_below lits [] o apart m n = n
+not_below lits (f ∷ tail) o apart m (inl same) =
+    All-among (λ l. l.var ≢ f.literal.var) lits o apart.0 m (ap (λ (k : Literal). k.var) (sym same))
+not_below lits (f ∷ tail) o apart m (inr n) = not_below lits tail o apart.1 m n
 
 -- the entries of a variable are one
 same_level : (log : List LogLine) (above : List Entry) (e : Entry) (rest : List Entry) → IsTrail log (above ++ e ∷ rest) → AllByRecursion (λ f. f.literal.var ≡ e.literal.var → f.level ≡ e.level) (above ++ e ∷ rest)
@@ -151,15 +179,7 @@ marked_some level seen (e ∷ entries) l h m out marked = by_level (cases_lt e.l
 -- a conflict at a level above 0 has two literals of that level
 pub conflict_marks : (log : List LogLine) (seen : List Bool) (entries : List Entry) (c : List Literal) → IsTrail log entries → IsFalsified (literals entries) c → IsQuiet (literals (before (top entries) entries)) c → ((l : Literal) → Among c l → IsMarked seen l.var) → 1 ≤ marked_at (top entries) seen entries
 conflict_marks log seen entries c t false_ (inl true_) marks =
-    absurd (consistent (literals entries) (trail_distinct log entries t) true_.literal (among_before (top entries) entries true_.literal true_.is_set) (All-among (λ l. Among (literals entries) (negated l)) c true_.literal false_ true_.stands))
-  where
-    among_before : (level : ℕ) (entries : List Entry) (l : Literal) → Among (literals (before level entries)) l → Among (literals entries) l
-    among_before level [] l m = m
-    among_before level (e ∷ entries) l m = by_level (ltb e.level level) m (among_before level entries l)
-      where
-        by_level : (b : Bool) → Among (literals (cond b (e ∷ entries) (before level entries))) l → (Among (literals (before level entries)) l → Among (literals entries) l) → Among (literals (e ∷ entries)) l
-        by_level true m rest = m
-        by_level false m rest = inr (rest m)
+    absurd (consistent (literals entries) (trail_distinct log entries t) true_.literal (among_earlier (top entries) entries true_.literal true_.is_set) (All-among (λ l. Among (literals entries) (negated l)) c true_.literal false_ true_.stands))
 conflict_marks log seen entries c t false_ (inr two) marks =
     marked_some (top entries) seen entries (negated two.first) (top_most log entries t) (All-among (λ l. Among (literals entries) (negated l)) c two.first false_ two.first_stands) two.first_unset.1 (marks two.first two.first_stands)
 
@@ -198,8 +218,8 @@ module _ (log : List LogLine) (entries above : List Entry) (e : Entry) (rest : L
         by_level (inr there) = is_left.1 there ∙ counted ∙ count_elsewhere level seen e rest there
 
     -- the entry is kept where it is the last of the level, or of an earlier one but not of level 0
-    pub kept_asserts : (e.reason ≡ None) ⊎ ((e.level ≢ 0) × (e.level ≡ level → left ≡ 0)) → IsAsserting level entries left (lits ++ negated e.literal ∷ [])
-    kept_asserts kept = by_level (cases_lt e.level level)
+    pub kept_asserts : (e.reason ≡ None) ⊎ ((e.level ≢ 0) × (e.level ≡ level → left ≡ 0)) → AllByRecursion (λ f. AllByRecursion (λ l. l.var ≢ f.literal.var) lits) (e ∷ rest) → IsAsserting level entries left (lits ++ negated e.literal ∷ [])
+    kept_asserts kept apart = by_level (cases_lt e.level level)
       where
         none_left : e.level ≡ level → (e.reason ≡ None) ⊎ ((e.level ≢ 0) × (e.level ≡ level → left ≡ 0)) → left ≡ 0
         none_left here (inr k) = k.1 here
@@ -211,20 +231,26 @@ module _ (log : List LogLine) (entries above : List Entry) (e : Entry) (rest : L
             unset_before log level e.level entries (negated e.literal) t (omega (arith, here)) (subst (AllByRecursion (λ f. f.literal.var ≡ e.literal.var → f.level ≡ e.level)) (sym parts) (same_level log above e rest (subst (IsTrail log) parts t)))
 
         first : (kept_lits : List Literal) → IsAsserting level entries open_ kept_lits → e.level ≡ level → IsAsserting level entries left (kept_lits ++ negated e.literal ∷ [])
-        first [] a here = (none_left here kept, free here, tt)
+        first [] a here = (none_left here kept, free here, tt, tt)
         first (u ∷ others) a here =
             let one = is_left.0 here in
             absurd (omega (arith, a.0))
 
-        later : (kept_lits : List Literal) → IsAsserting level entries open_ kept_lits → e.level < level → IsAsserting level entries left (kept_lits ++ negated e.literal ∷ [])
-        later [] a lower =
+        behind : (others : List Literal) → IsLatestFirst entries others → ((o : Literal) → Among others o → ¬ Among (literals (e ∷ rest)) (negated o)) → IsLatestFirst entries (others ++ negated e.literal ∷ [])
+        behind [] sorted out = (λ k m. tt)
+        behind (o ∷ others) sorted out = (λ k m.
+            let here : Among (literals (before k (above ++ e ∷ rest))) e.literal = before_holds k above (e ∷ rest) (negated o) e.literal (subst (λ (es : List Entry). Among (literals (before k es)) (negated o)) parts m) (out o (inl refl)) (inl refl) in
+            All-append (λ l. Among (literals (before k entries)) (negated l)) others (negated e.literal ∷ []) (sorted k m) (subst (Among (literals (before k entries))) (sym (negated-negated e.literal)) (subst (λ (es : List Entry). Among (literals (before k es)) e.literal) (sym parts) here), tt))
+
+        later : (kept_lits : List Literal) → AllByRecursion (λ f. AllByRecursion (λ l. l.var ≢ f.literal.var) kept_lits) (e ∷ rest) → IsAsserting level entries open_ kept_lits → e.level < level → IsAsserting level entries left (kept_lits ++ negated e.literal ∷ [])
+        later [] apart a lower =
             let none = marked_none level seen (e ∷ rest) (lower, rest_lower lower) in
             absurd (omega (arith, a, counted))
-        later (u ∷ others) a lower =
-            (is_left.1 (λ same. absurd (omega arith)) ∙ a.0, a.1, All-append (λ l. Among (literals (before level entries)) (negated l)) others (negated e.literal ∷ []) a.2 (subst (λ (l : Literal). Among (literals (before level entries)) l) (sym (negated-negated e.literal)) (subst (λ (es : List Entry). Among (literals (before level es)) e.literal) (sym parts) (before_has level above e rest lower)), tt))
+        later (u ∷ others) apart a lower =
+            (is_left.1 (λ same. absurd (omega arith)) ∙ a.0, a.1, All-append (λ l. Among (literals (before level entries)) (negated l)) others (negated e.literal ∷ []) a.2 (subst (λ (l : Literal). Among (literals (before level entries)) l) (sym (negated-negated e.literal)) (subst (λ (es : List Entry). Among (literals (before level es)) e.literal) (sym parts) (before_has level above e rest lower)), tt), behind others a.3 (λ o m. not_below (u ∷ others) (e ∷ rest) o apart (inr m)))
 
         by_level : (e.level < level) ⊎ (level ≤ e.level) → IsAsserting level entries left (lits ++ negated e.literal ∷ [])
-        by_level (inl lower) = later lits asserting lower
+        by_level (inl lower) = later lits apart asserting lower
         by_level (inr upper) =
             let most = entry_level in
             first lits asserting (omega arith)
@@ -246,7 +272,7 @@ module _ (log : List LogLine) (entries above : List Entry) (e : Entry) (rest : L
         by_lits (u ∷ kept_lits) a (inr there) =
             let most = entry_level in
             let lower : e.level < level = omega arith in
-            (counts ∙ marked_none level new rest (rest_lower lower), a.1, a.2)
+            (counts ∙ marked_none level new rest (rest_lower lower), a.1, a.2, a.3)
 
 -- an entry that isn't marked leaves the count
 pub skipped_counts : (log : List LogLine) (level : ℕ) (seen : List Bool) (e : Entry) (rest : List Entry) → IsTrail log (e ∷ rest) → is_marked seen e.literal.var ≡ false → marked_at level seen (e ∷ rest) ≡ marked_at level (set seen e.literal.var false) rest

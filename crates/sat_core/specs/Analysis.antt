@@ -2,7 +2,7 @@
 use Rattle.std.specs.Prelude.{◌≡◌, ◌≢◌, ◌⊎◌, ◌+◌, ◌*◌, ◌≤◌, ◌==◌, ◌&&◌, ℕ, Bool, true, false, List, [], ◌∷◌, length, slice_index_or, if◌then◌else◌}
 use Rattle.std.specs.List.{AllByRecursion}
 use Rattle.sat_log.specs.Literal.{Literal, negated}
-use Rattle.sat_log.specs.Clause.{Among, IsUnset, HasDistinctVariables}
+use Rattle.sat_log.specs.Clause.{Among, IsFalsified, IsUnset, HasDistinctVariables}
 use Rattle.sat_log.specs.Accepted.{Refutes}
 use Rattle.sat_log.specs.Learned.{StandsInSome, EachIsUsed}
 use Rattle.sat_log.specs.declared.line.LogLine.{LogLine}
@@ -80,12 +80,23 @@ pub record IsAnalysis (log : List LogLine) (rest : List Entry) (a : Analyzed) : 
   pub lits_room : length a.lits + length rest ≤ room a.seen
   pub hints_room : length a.hints + length rest ≤ room a.seen
 
--- The first literal of the clause is unset before the level, and all others are false there; as long as there is none,
--- some entry of the level is marked.
+-- Where the first of these literals is false before some level, so are the others: it is of the latest level.
+abbrev pub IsLatestFirst : List Entry → List Literal → Type 0
+IsLatestFirst entries [] = Unit {0}
+IsLatestFirst entries (o ∷ others) =
+    (level : ℕ) → Among (literals (before level entries)) (negated o) → AllByRecursion (λ l. Among (literals (before level entries)) (negated l)) others
+
+-- The first literal of the clause is unset before the level, and all others are false there, of which the first is of the
+-- latest level; as long as there is none, some entry of the level is marked.
 abbrev pub IsAsserting : ℕ → List Entry → ℕ → List Literal → Type 0
 IsAsserting level entries open_ [] = 1 ≤ open_
 IsAsserting level entries open_ (u ∷ others) =
-    (open_ ≡ 0) × IsUnset (literals (before level entries)) u × AllByRecursion (λ l. Among (literals (before level entries)) (negated l)) others
+    (open_ ≡ 0) × IsUnset (literals (before level entries)) u × AllByRecursion (λ l. Among (literals (before level entries)) (negated l)) others × IsLatestFirst entries others
+
+-- the first literal is unset, and all others are false
+abbrev pub IsAsserted : List Literal → List Literal → Type 0
+IsAsserted set [] = ⊥
+IsAsserted set (u ∷ others) = IsUnset set u × IsFalsified set others
 
 -- each literal is the negation of one of these
 abbrev pub AreNegationsOf : List Literal → List Literal → Type 0

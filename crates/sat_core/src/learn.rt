@@ -4,9 +4,10 @@ ghost use Rattle.std.specs.Prelude.{◌≡◌, ◌≢◌, ◌≤◌, ◌++◌, �
 ghost use Rattle.sat_log.specs.Literal.{Literal, negated};
 ghost use Rattle.sat_log.specs.Clause.{Among, HasDistinctVariables};
 ghost use Rattle.sat_log.specs.Accepted.{IsLog, Accepts};
+ghost use Rattle.sat_log.specs.declared.line.LogLine.{LogLine};
 ghost use Rattle.sat_core.specs.Trail.{literals, top};
 ghost use Rattle.sat_core.specs.Units.{IsConflict};
-ghost use Rattle.sat_core.specs.Analysis.{IsAnalysis};
+ghost use Rattle.sat_core.specs.Analysis.{IsAnalysis, IsAsserted};
 ghost use Rattle.sat_core.specs.Search.{AskedFirst, AddsLearned, AddsFinal};
 
 use crate::analysis::Analysis;
@@ -61,6 +62,8 @@ impl Search {
         requires above { 1 ≤ top self.old.entries }
         ensures ok { OnOk result (AddsLearned self.old.log self.new.log) }
         ensures err { OnErr result (self.new.log ≡ self.old.log) }
+        // The jump goes to exactly the latest level among the clause's literals but the first, which is unset then.
+        ensures jump { (line : LogLine) → self.new.log ≡ self.old.log ++ line ∷ [] → IsAsserted (literals self.new.entries) line.lits }
         ensures asked { (want : List Literal) → AskedFirst want self.old.entries → AskedFirst want self.new.entries }
         ensures variables { self.new.variables ≡ self.old.variables }
     {

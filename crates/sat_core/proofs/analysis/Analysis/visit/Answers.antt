@@ -1,7 +1,9 @@
-use Rattle.std.proofs.Common.{◌≡◌, ◌+◌, ◌-◌, ℕ, false, [], ◌∷◌, ◌++◌, length, take, set, ap, sym, subst, ◌∙◌, refl, length-set, arith}
+use Rattle.std.proofs.Common.{◌≡◌, ◌+◌, ◌-◌, ℕ, false, [], ◌∷◌, ◌++◌, length, take, set, ap, sym, subst, ◌∙◌, refl, length-set, arith, List, ◌≢◌}
+use Rattle.std.specs.List.{AllByRecursion}
 use Rattle.sat_log.specs.Literal.{Literal, negated}
 use Rattle.sat_core.specs.Trail.{literals, bottom}
 use Rattle.sat_core.specs.Analysis.{Analyzed, is_marked, IsMarked, marked_at, MarksOthers, IsAnalysis, IsAsserting}
+use Rattle.sat_core.specs.declared.trail.Entry.{Entry}
 use Rattle.sat_core.proofs.Levels.{trail_distinct, skipped_counts, count_here, left_counts, kept_asserts, resolved_asserts, IsLeft}
 use Rattle.sat_core.proofs.Visits.{parts_of, bottom_length, marked_at_most, analyzed_is, unmarked_at, tail_trail, visit_skip, visit_keep, reason_of, others_false_in, visit_resolve}
 use Rattle.sat_core.proofs.analysis.Analysis.visit.Goals as goal
@@ -82,7 +84,7 @@ returns-in-None-clause-asserting c =
     let marked : IsMarked a.seen e.literal.var = sym (c.unmark.ensures.mark ∙ ap (is_marked a.seen) c.var.ensures.value) ∙ c.if-not-unmark.false in
     let before = unmarked_at c.unmark.new.self a c.var.result e.literal.var c.unmark.ensures.new c.var.ensures.value in
     let counted = c.requires.counted ∙ ap (marked_at c.args.level a.seen) c.entry-entry.ensures.entry in
-    let asserts = kept_asserts log entries (take (length entries - (c.args.i + 1)) entries) e (bottom c.args.i entries) (parts_of entries c.args.i e c.entry-entry.ensures.entry) c.requires.trail c.args.level c.requires.latest a.seen a.lits c.args.pending c.if-entry-level.left marked counted (left_at d marked) c.requires.asserting c.in-None.ensures.kept in
+    let asserts = kept_asserts log entries (take (length entries - (c.args.i + 1)) entries) e (bottom c.args.i entries) (parts_of entries c.args.i e c.entry-entry.ensures.entry) c.requires.trail c.args.level c.requires.latest a.seen a.lits c.args.pending c.if-entry-level.left marked counted (left_at d marked) c.requires.asserting c.in-None.ensures.kept (subst (λ (es : List Entry). AllByRecursion (λ f. AllByRecursion (λ l. l.var ≢ f.literal.var) a.lits) es) c.entry-entry.ensures.entry c.requires.state.apart) in
     let lits : c.keep.new.self.lits ≡ a.lits ++ negated e.literal ∷ [] =
     ap (λ (x : Analyzed). x.lits) (c.keep.ensures ∙ ap (λ (x : Analyzed). record { seen = x.seen; lits = x.lits ++ c.negated.result ∷ []; hints = x.hints }) before) ∙ ap (λ (l : Literal). a.lits ++ l ∷ []) c.negated.ensures in
     subst (IsAsserting c.args.level entries c.if-entry-level.left) (sym lits) asserts

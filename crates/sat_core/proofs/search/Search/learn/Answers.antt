@@ -1,10 +1,11 @@
-use Rattle.std.proofs.Common.{◌≤◌, ◌∷◌, [], ◌++◌, ap, sym, subst, ◌∙◌}
+use Rattle.std.proofs.Common.{◌≡◌, ◌≤◌, ◌∷◌, [], ◌++◌, ap, sym, subst, ◌∙◌}
+use Rattle.std.proofs.lemmas.List.{append_cancel_left}
 use Rattle.sat_log.specs.Accepted.{Accepts}
 use Rattle.sat_log.specs.declared.line.LineKind.TheVariants.{Conflict}
 use Rattle.sat_log.specs.declared.line.LogLine.{LogLine}
 use Rattle.sat_core.specs.Trail.{top}
 use Rattle.sat_core.specs.Search.{Searched, KeepsSearch, AskedFirst, AddsLearned}
-use Rattle.sat_core.proofs.Learning.{drawn_up_to, asked_before, line_accepted, keeps_marks, keeps_learned, adds_learned}
+use Rattle.sat_core.proofs.Learning.{jump_asserts, drawn_up_to, asked_before, line_accepted, keeps_marks, keeps_learned, adds_learned}
 use Rattle.sat_core.proofs.search.Search.learn.Goals as goal
 
 pub jump_level-level-requires : goal.jump_level-level-requires
@@ -41,3 +42,13 @@ pub returns-clause-asked : goal.returns-clause-asked
 returns-clause-asked c want asked =
     let s = c.self.inside in
     subst (AskedFirst want) (sym c.backjump.ensures.entries) (asked_before want _ s.trail.entries (subst (λ (v : Searched). AskedFirst want v.entries) (sym c.self.view_is) asked))
+
+pub returns-clause-jump : goal.returns-clause-jump
+returns-clause-jump c line same =
+    let s = c.self.inside in
+    let above = subst (λ (v : Searched). 1 ≤ top v.entries) (sym c.self.view_is) c.requires.above in
+    let grown : s.log ++ line ∷ [] ≡ s.log ++ c.in_ok-line.line ∷ [] = ap (λ (v : Searched). v.log ++ line ∷ []) c.self.view_is ∙ sym same ∙ c.in_ok-append.ensures.ok in
+    let lines : line ∷ [] ≡ c.in_ok-line.line ∷ [] = append_cancel_left s.log (line ∷ []) (c.in_ok-line.line ∷ []) grown in
+    let one : line ≡ c.in_ok-line.line = cc in
+    let lits : line.lits ≡ c.analyze.new.self.lits = ap (λ (l : LogLine). l.lits) (one ∙ c.in_ok-line.ensures) in
+    rw (c.backjump.ensures.entries, lits) (jump_asserts s.log s.trail.entries c.analyze.new.self.lits c.jump_level-level.result c.self.invariant.trail_is above c.analyze.ensures.asserting c.jump_level-level.ensures)
