@@ -1,10 +1,8 @@
 -- What is said of a trace whose states were read.
-use Rattle.std.proofs.Common.{◌≡◌, ◌<◌, ℕ, Bool, true, List, [], ◌∷◌, map, length, refl, ap, sym, ◌∙◌, subst, arith}
+use Rattle.std.proofs.Common.{◌≡◌, ◌<◌, ℕ, Bool, true, List, [], ◌∷◌, map, length, refl, ap, sym, ◌∙◌, subst}
 use Rattle.std.specs.Prelude.{Option, Some, None}
 use Rattle.std.proofs.lemmas.List.{length-map}
 use Rattle.smv_tree.specs.Models.{Body}
-use Rattle.smv_tree.specs.declared.value.Value.{Value}
-use Rattle.smv_tree.specs.declared.value.Value.TheVariants.{Truth}
 use Rattle.shell.specs.declared.event.Cause.{Cause}
 use Rattle.std.proofs.lemmas.Bool.{false≢true}
 use Rattle.shell.specs.declared.event.Event.{Event}
@@ -13,7 +11,7 @@ use Rattle.shell.specs.declared.event.Refusal.TheVariants.{NotBuilt, NoValue}
 use Rattle.shell.specs.Plain.{is_plain_body, is_plain_program, program_names, names_of}
 use Rattle.shell.specs.Evaluation.{stop_of}
 use Rattle.shell.specs.Stops.{event_of}
-use Rattle.shell.specs.TraceTexts.{Section, IsTraceText, first_gap, truths_of, states_of}
+use Rattle.shell.specs.TraceTexts.{Section, IsTraceText, first_gap, truths_of}
 use Rattle.shell.specs.ExecuteTrace.{Judges}
 use Rattle.shell.proofs.MainLemmas.{plain_facts}
 use Rattle.shell.proofs.RunLemmas.{AreFull, Judged, judged}

@@ -1,15 +1,15 @@
 -- What a plain program brings: one instance, and a state variable for each name.
-use Rattle.std.proofs.Common.{◌≡◌, ℕ, Bool, true, false, not, ◌&&◌, cond, List, [], ◌∷◌, ◌++◌, map, refl, ap, sym, ◌∙◌, subst}
-use Rattle.std.specs.Prelude.{Option, Some, None, codes, flat_map, filter}
+use Rattle.std.proofs.Common.{◌≡◌, ℕ, true, List, [], ◌∷◌, ◌++◌, map, refl, ap, ◌∙◌}
+use Rattle.std.specs.Prelude.{codes, flat_map}
 use Rattle.std.specs.List.{list_all, filter_map}
 use Rattle.std.specs.Str.{bytes_eq}
 use Rattle.std.proofs.lemmas.Bool.{false≢true, and_parts}
 use Rattle.smv_tree.specs.Trees.{Tree}
-use Rattle.smv_tree.specs.Models.{Body, Part, Shape, variable, define, assign, constraint, property, plain, instance}
+use Rattle.smv_tree.specs.Models.{Body, Part, variable, define, assign, constraint, property, plain, instance}
 use Rattle.smv_tree.specs.declared.program.Kind.TheVariants as kind
 use Rattle.smv_tree.specs.declared.value.Ty.TheVariants as type
-use Rattle.smv_meaning.specs.Instances.{Instance, Variable, Entry, is_instance, is_variable, instance_of, variable_of, part_entries, entries_below, entries, instances, variables, find_body, list_of}
-use Rattle.shell.specs.Plain.{is_plain_part, is_plain_body, is_empty, names_of, declared_name}
+use Rattle.smv_meaning.specs.Instances.{Instance, Variable, Entry, is_instance, instance_of, variable_of, part_entries, entries_below, entries, instances, variables}
+use Rattle.shell.specs.Plain.{is_plain_part, is_plain_body, is_empty, names_of}
 
 -- the one instance
 abbrev pub main_of : Body → Instance

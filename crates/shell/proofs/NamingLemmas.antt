@@ -1,27 +1,24 @@
 -- What names stand for in a plain program, and the values of its expressions.
-use Rattle.std.proofs.Common.{◌≡◌, ℕ, Bool, true, false, not, ◌&&◌, ◌||◌, cond, List, [], ◌∷◌, ◌++◌, map, length, refl, ap, sym, ◌∙◌, subst, arith}
-use Rattle.std.specs.Prelude.{Option, Some, None, codes, filter, position, ⊤}
+use Rattle.std.proofs.Common.{◌≡◌, ℕ, Bool, true, false, ◌||◌, cond, List, [], ◌∷◌, ◌++◌, map, length, refl, ap, sym, ◌∙◌, subst, arith}
+use Rattle.std.specs.Prelude.{Some, None, codes, position, ⊤}
 use Rattle.std.specs.List.{list_all, list_any}
 use Rattle.std.specs.Str.{bytes_eq}
 use Rattle.std.proofs.Math.Path.{fun_ext}
 use Rattle.std.proofs.lemmas.List.{append-nil}
-use Rattle.std.proofs.lemmas.Bool.{false≢true, and_parts, both_ways}
+use Rattle.std.proofs.lemmas.Bool.{false≢true, and_parts}
 use Rattle.std.proofs.lemmas.Slice.Eq.{bytes_eq-Decides}
-use Rattle.smv_tree.specs.Trees.{Tree, truth, number, word, name, span, set, cases, choice, one, two, select, next, widen, const, count}
-use Rattle.smv_tree.specs.Models.{Body, Part, Shape, Formal, variable, define, assign, constraint, property, plain, instance}
+use Rattle.smv_tree.specs.Trees.{Tree}
+use Rattle.smv_tree.specs.Models.{Body, Part, Formal, variable, define, assign, constraint, property, plain, instance}
 use Rattle.smv_tree.specs.declared.program.Kind.TheVariants as kind
-use Rattle.smv_tree.specs.declared.expr.Op1.TheVariants as op1
-use Rattle.smv_tree.specs.declared.expr.Op2.TheVariants as op2
 use Rattle.smv_tree.specs.declared.value.Ty.TheVariants as type
 use Rattle.smv_tree.specs.declared.value.Value.{Value}
 use Rattle.smv_tree.specs.declared.value.Value.TheVariants.{Truth}
-use Rattle.smv_meaning.specs.Instances.{Instance, Variable, instances, variables}
-use Rattle.smv_meaning.specs.Names.{Target, to_variable, to_body, to_instance, to_symbol, to_nothing, instance_at, declared, or_else, member_of, symbol_of, first_target, actual_target, follow, resolve_from, resolve, same_names, names_symbol}
-use Rattle.smv_meaning.specs.Values.{Naming, Moment, IsNaming, values, variable_values, value_at, state_variables, input_variables, target_values}
+use Rattle.smv_meaning.specs.Instances.{Instance, Variable, variables}
+use Rattle.smv_meaning.specs.Names.{Target, to_variable, to_body, to_instance, to_symbol, to_nothing, instance_at, declared, or_else, member_of, symbol_of, first_target, actual_target, follow, resolve, same_names, names_symbol}
+use Rattle.smv_meaning.specs.Values.{Naming, Moment, IsNaming, value_at, state_variables, input_variables, target_values}
 use Rattle.smv_meaning.specs.Runs.{at_state}
-use Rattle.shell.specs.Plain.{is_plain, is_plain_part, is_declared, is_variable, is_empty, names_of}
-use Rattle.std.proofs.Math.Bool.{beq}
-use Rattle.shell.specs.Evaluation.{bool_at, truth_of}
+use Rattle.shell.specs.Plain.{is_plain_part, is_declared, is_empty, names_of}
+use Rattle.shell.specs.Evaluation.{bool_at}
 use Rattle.shell.proofs.PlainLemmas.{bytes_eq-flip, bytes_eq-other}
 use Rattle.shell.proofs.MainLemmas.{PlainFacts, main_of, variable_named, the_instances, the_variables}
 

@@ -1,23 +1,23 @@
 -- Where the replay of a plain model stops, and that it is a run where it does not stop.
-use Rattle.std.proofs.Common.{◌≡◌, ◌+◌, ◌<◌, ℕ, suc, Bool, true, false, not, ◌&&◌, cond, List, [], ◌∷◌, ◌++◌, map, length, refl, ap, sym, ◌∙◌, subst, append_assoc, arith, length-append}
-use Rattle.std.specs.Prelude.{Option, Some, None, ⊤, filter}
+use Rattle.std.proofs.Common.{◌≡◌, ◌+◌, ◌<◌, ℕ, Bool, true, false, cond, List, [], ◌∷◌, ◌++◌, map, length, refl, ap, sym, ◌∙◌, subst, arith}
+use Rattle.std.specs.Prelude.{Option, Some, None}
 use Rattle.std.specs.List.{AllByRecursion, list_all}
 use Rattle.std.proofs.lemmas.Bool.{false≢true, and_parts}
 use Rattle.std.proofs.lemmas.Option.{same_Some, none-some}
 use Rattle.std.proofs.lemmas.List.{map-append, length-map}
 use Rattle.smv_tree.specs.Trees.{Tree}
-use Rattle.smv_tree.specs.Models.{Body, Part, Shape, variable, define, assign, constraint, property}
+use Rattle.smv_tree.specs.Models.{Body, Part, variable, define, assign, constraint, property}
 use Rattle.smv_tree.specs.declared.place.Place.{Place}
 use Rattle.smv_tree.specs.declared.program.Kind.TheVariants as kind
 use Rattle.smv_tree.specs.declared.program.Section.TheVariants as section
 use Rattle.smv_tree.specs.declared.value.Value.{Value}
 use Rattle.smv_tree.specs.declared.value.Value.TheVariants.{Truth}
-use Rattle.smv_meaning.specs.Instances.{Instance, Variable, instances, variables}
+use Rattle.smv_meaning.specs.Instances.{Instance, Variable}
 use Rattle.smv_meaning.specs.Values.{state_variables, input_variables}
-use Rattle.smv_meaning.specs.Runs.{AreLegal, IsState, IsInput, AsksFirst, AsksEach, AsksStep, All_asked, IsFirst, IsAllowed, Keeps, IsStep, IsPath, IsRun, at_state}
+use Rattle.smv_meaning.specs.Runs.{AreLegal, AsksFirst, AsksEach, AsksStep, All_asked, IsFirst, IsAllowed, Keeps, IsStep, IsPath, at_state}
 use Rattle.shell.specs.declared.event.Cause.{Cause}
 use Rattle.shell.specs.declared.event.Cause.TheVariants.{Init, Trans}
-use Rattle.shell.specs.Plain.{is_plain, is_plain_part, names_of}
+use Rattle.shell.specs.Plain.{is_plain_part, names_of}
 use Rattle.std.specs.Option.{option_or}
 use Rattle.shell.specs.Evaluation.{truth_of, init_cause, step_cause, first_init, first_step, at_number, stop_behind, stop_of}
 use Rattle.shell.specs.Replays.{FailsFirst, IsTrace, StopsAt}

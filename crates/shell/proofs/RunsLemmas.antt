@@ -1,6 +1,6 @@
 -- The turns of a session, one after another.
-use Rattle.std.proofs.Common.{◌≡◌, ◌≢◌, ◌+◌, ◌≤◌, ℕ, List, [], ◌∷◌, ◌++◌, refl, ap, sym, ◌∙◌, subst, inl, inr, ⊎_elim, append_assoc, arith}
-use Rattle.std.specs.Prelude.{◌⊎◌, ◌==◌, Bool, true, false, MatchBool, Option, Result, Ok, Err}
+use Rattle.std.proofs.Common.{◌≡◌, ◌≢◌, ◌+◌, ◌≤◌, ℕ, List, [], ◌∷◌, ◌++◌, ap, sym, ◌∙◌, subst, inl, inr, ⊎_elim, append_assoc, arith}
+use Rattle.std.specs.Prelude.{◌==◌, Bool, true, false, MatchBool, Option, Result, Ok, Err}
 use Rattle.outside.specs.declared.source.Line as line
 use Rattle.outside.specs.declared.source.LineFault.{LineFault}
 use Rattle.outside.specs.declared.source.LineFault.TheVariants as line_fault
@@ -15,7 +15,7 @@ use Rattle.std.proofs.lemmas.Bool.{cases_order}
 use Rattle.shell.specs.declared.event.Event.{Event}
 use Rattle.shell.specs.declared.next.Next.{Next}
 use Rattle.shell.specs.declared.next.Next.TheVariants.{Go, Stop}
-use Rattle.shell.specs.Texts.{output_of, errors_of, event_text, is_output}
+use Rattle.shell.specs.Texts.{output_of, errors_of}
 use Rattle.shell.proofs.TellLemmas.{nothing_added}
 use Rattle.shell.specs.Worlds.{World, Disk, Input, KeepsSession}
 use Rattle.shell.specs.Sessions.{Asked, asked_by, Session, SessionAsked, Does, DoesCommand, Treats, Turns, Runs, ends, breaks, goes_on}

@@ -1,8 +1,9 @@
 -- What a command does, from what its parts did.
-use Rattle.std.proofs.Common.{◌≡◌, ◌≤◌, ℕ, Bool, true, false, cond, List, [], ◌∷◌, refl, ap, sym, ◌∙◌, subst, inl, inr}
+use Rattle.std.proofs.Common.{◌≡◌, ℕ, true, false, cond, List, refl, ap, sym, subst, inl, inr}
 use Rattle.std.specs.Prelude.{Option, Some, None, Result, Ok, Err}
 use Rattle.smv_tree.specs.Models.{Body}
 use Rattle.shell.specs.declared.event.Event.{Event}
+use Rattle.shell.specs.declared.event.Event.TheVariants.{Refused}
 use Rattle.shell.specs.declared.event.Refusal.{Refusal}
 use Rattle.shell.specs.declared.next.Next.{Next}
 use Rattle.shell.specs.Commands.{Command, command_of}
@@ -15,6 +16,11 @@ use Rattle.shell.specs.Written.{Sinks, Told}
 loaded : (kept : Option (List Body)) (named : Option (List ℕ)) (input : List ℕ) (disk mid : Disk) (r : Result (List Body) Refusal) → kept ≡ None → named ≡ Some input → LoadsFile input disk r mid → Loads kept named disk r mid
 loaded kept named input disk mid r none some h =
     subst (λ k. Loads k named disk r mid) (sym none) (subst (λ n. LoadsNamed n disk r mid) (sym some) h)
+
+-- the model could not be loaded
+pub not_loaded : (old : State) (disk mid : Disk) (input file : List ℕ) (r : Refusal) → old.model ≡ None → old.input_file ≡ Some input → LoadsFile input disk (Err r) mid → Executes old disk file (Refused r) old mid
+not_loaded old disk mid input file r none some loads =
+    inl (r, loaded old.model old.input_file input disk mid (Err r) none some loads, refl, refl)
 
 -- the trace is told on the model that was loaded
 pub executed : (old : State) (disk mid end : Disk) (input file : List ℕ) (program : List Body) (e : Event) (new : State) → old.model ≡ None → old.input_file ≡ Some input → LoadsFile input disk (Ok program) mid → Tells program file mid e end → new ≡ after_event old program e → Executes old disk file e new end

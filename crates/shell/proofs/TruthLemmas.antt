@@ -1,19 +1,17 @@
 -- The values of plain expressions.
-use Rattle.std.proofs.Common.{◌≡◌, ℕ, Bool, true, false, not, ◌&&◌, ◌||◌, List, [], ◌∷◌, map, length, refl, ap, sym, ◌∙◌, subst}
-use Rattle.std.specs.Str.{bytes_eq}
+use Rattle.std.proofs.Common.{◌≡◌, ℕ, Bool, true, false, List, [], ◌∷◌, map, length, refl, ap, sym, ◌∙◌}
 use Rattle.std.proofs.lemmas.Bool.{false≢true, and_parts}
 use Rattle.smv_tree.specs.Trees.{Tree, truth, number, word, name, span, set, cases, choice, one, two, select, next, widen, const, count}
 use Rattle.smv_tree.specs.Models.{Body}
 use Rattle.smv_tree.specs.declared.expr.Op1.TheVariants as op1
 use Rattle.smv_tree.specs.declared.expr.Op2.TheVariants as op2
-use Rattle.smv_tree.specs.declared.value.Value.{Value}
 use Rattle.smv_tree.specs.declared.value.Value.TheVariants.{Truth}
-use Rattle.smv_meaning.specs.Operators.{one_value, two_values, same_value}
-use Rattle.smv_meaning.specs.Values.{Naming, IsNaming, values, on_one, on_both}
+use Rattle.smv_meaning.specs.Operators.{one_value, same_value}
+use Rattle.smv_meaning.specs.Values.{Naming, values, on_one, on_both}
 use Rattle.smv_meaning.specs.Runs.{Holds, at_state}
-use Rattle.shell.specs.Plain.{is_plain, is_declared, is_variable, names_of}
+use Rattle.shell.specs.Plain.{is_plain, is_variable, names_of}
 use Rattle.std.proofs.Math.Bool.{beq}
-use Rattle.shell.specs.Evaluation.{bool_at, truth_of}
+use Rattle.shell.specs.Evaluation.{truth_of}
 use Rattle.shell.proofs.MainLemmas.{PlainFacts}
 use Rattle.shell.proofs.NamingLemmas.{naming_of, naming_is_right, naming_is_only, name_value}
 

@@ -1,5 +1,5 @@
 -- The command that checks the log in a file.
-use Rattle.std.specs.Prelude.{◌≡◌, ◌⊎◌, ◌-◌, ℕ, List, length, Result, Ok, Err, ⊤}
+use Rattle.std.specs.Prelude.{◌≡◌, ◌⊎◌, ◌-◌, ℕ, List, length, Ok, Err, ⊤}
 use Rattle.outside.specs.declared.files.FileFault.{FileFault}
 use Rattle.sat_log.specs.Accepted.{IsLog, originals}
 use Rattle.sat_log.specs.LogText.{IsTextOf}

@@ -1,14 +1,12 @@
 -- The truth of plain expressions, and the first constraint that is false.
-use Rattle.std.specs.Prelude.{ℕ, ◌+◌, Bool, true, false, not, ◌&&◌, if◌then◌else◌, List, [], ◌∷◌, Option, Some, None}
+use Rattle.std.specs.Prelude.{ℕ, ◌+◌, Bool, false, not, if◌then◌else◌, List, [], ◌∷◌, Option, Some, None}
 use Rattle.std.specs.Option.{option_or, option_map}
 use Rattle.std.specs.Str.{bytes_eq}
 use Rattle.std.proofs.Math.Bool.{beq}
-use Rattle.smv_tree.specs.declared.place.Place.{Place}
 use Rattle.smv_tree.specs.Trees.{Tree, truth, name, next, one, two}
 use Rattle.smv_tree.specs.Models.{Part, constraint}
 use Rattle.smv_tree.specs.declared.expr.Op1.TheVariants as op1
 use Rattle.smv_tree.specs.declared.expr.Op2.TheVariants as op2
-use Rattle.smv_tree.specs.declared.program.Section.{Section}
 use Rattle.smv_tree.specs.declared.program.Section.TheVariants as section
 use Rattle.shell.specs.declared.event.Cause.{Cause}
 use Rattle.shell.specs.declared.event.Cause.TheVariants.{Init, Trans}

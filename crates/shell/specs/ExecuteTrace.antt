@@ -2,7 +2,8 @@
 use Rattle.std.specs.Prelude.{if◌then◌else◌, ◌≡◌, ◌⊎◌, ℕ, Bool, true, false, List, [], ◌∷◌, length, Option, Some, None, Result, Ok, Err, ⊤}
 use Rattle.outside.specs.declared.files.FileFault.{FileFault}
 use Rattle.smv_tree.specs.Models.{Body}
-use Rattle.smv_parse.specs.Model.{SpellsModel}
+use Rattle.smv_parse.specs.FirstForm.{IsFirstForm}
+use Rattle.smv_parse.specs.Texts.{ExplainsProgram, SpellsProgram}
 use Rattle.shell.specs.declared.event.Refusal.{Refusal}
 use Rattle.shell.specs.declared.event.Refusal.TheVariants as refusal
 use Rattle.shell.specs.declared.event.Event.{Event}
@@ -17,10 +18,12 @@ use Rattle.shell.specs.FileReads.{ReadsWhole, file_refusal}
 abbrev pub file_limit : ℕ
 file_limit = 4194304
 
--- the model that a text is, or the refusal: the text spells no boolean module
+-- The model that a text is, or the refusal: the text's first fault; or that what it spells is not of
+-- the form that can be run so far.
 abbrev pub ModelOf : List ℕ → Result (List Body) Refusal → Type 0
-ModelOf text (Ok program) = SpellsModel text program × IsPlain program
-ModelOf text (Err refusal.NotBuilt) = (program : List Body) → SpellsModel text program → IsPlain program → ⊥
+ModelOf text (Ok program) = SpellsProgram text program × IsFirstForm text × IsPlain program
+ModelOf text (Err (refusal.BadModel fault)) = ExplainsProgram text fault
+ModelOf text (Err refusal.NotBuilt) = (program : List Body) × SpellsProgram text program × (IsFirstForm text → IsPlain program → ⊥)
 ModelOf text (Err refusal.NoMemory) = ⊤
 ModelOf text (Err _) = ⊥
 

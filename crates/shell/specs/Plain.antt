@@ -3,7 +3,7 @@ use Rattle.std.specs.Prelude.{◌≡◌, ℕ, Bool, true, false, not, ◌&&◌, 
 use Rattle.std.specs.List.{list_any, list_all, filter_map}
 use Rattle.std.specs.Str.{bytes_eq}
 use Rattle.smv_tree.specs.Trees.{Tree, truth, name, next, one, two}
-use Rattle.smv_tree.specs.Models.{Body, Part, Shape, variable, define, assign, constraint, property, plain, instance}
+use Rattle.smv_tree.specs.Models.{Body, Part, variable, constraint, plain}
 use Rattle.smv_tree.specs.declared.expr.Op1.TheVariants as op1
 use Rattle.smv_tree.specs.declared.expr.Op2.TheVariants as op2
 use Rattle.smv_tree.specs.declared.program.Kind.TheVariants as kind

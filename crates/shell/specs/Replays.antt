@@ -3,7 +3,6 @@ use Rattle.std.specs.Prelude.{◌≡◌, ◌+◌, ℕ, List, [], ◌∷◌, ◌+
 use Rattle.std.specs.List.{AllByRecursion}
 use Rattle.smv_tree.specs.Trees.{Tree}
 use Rattle.smv_tree.specs.Models.{Body, Part, constraint}
-use Rattle.smv_tree.specs.declared.place.Place.{Place}
 use Rattle.smv_tree.specs.declared.program.Section.TheVariants as section
 use Rattle.smv_tree.specs.declared.value.Value.{Value}
 use Rattle.smv_meaning.specs.Instances.{Instance, instances}

@@ -1,8 +1,7 @@
 -- What the states that were read stand for.
-use Rattle.std.specs.Prelude.{◌≡◌, ◌<◌, ℕ, Bool, List, length, map, Option, Some, None, slice_get, Result, Ok, Err, ⊤, Vec}
+use Rattle.std.specs.Prelude.{◌≡◌, ◌<◌, ℕ, Bool, List, length, map, None, slice_get, Result, Ok, Err, Vec}
 use Rattle.std.specs.Option.{option_map}
 use Rattle.std.specs.declared.alloc.Global.{Global}
-use Rattle.shell.specs.declared.sections.Kept.{Kept}
 use Rattle.shell.specs.declared.states.States.{States}
 use Rattle.shell.specs.declared.states.States.TheVariants as states
 use Rattle.shell.specs.TraceTexts.{Section, lacking, truths_of, first_gap}

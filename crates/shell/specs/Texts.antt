@@ -1,6 +1,8 @@
 -- What the shell writes of an event, and where.
-use Rattle.std.specs.Prelude.{ℕ, Bool, true, false, List, [], ◌∷◌, ◌++◌, codes, decimal, flat_map, if◌then◌else◌}
+use Rattle.std.specs.Prelude.{ℕ, Bool, true, false, List, [], ◌∷◌, codes, decimal, flat_map, if◌then◌else◌}
 use Rattle.smv_tree.specs.declared.place.Place.{Place}
+use Rattle.smv_parse.specs.declared.fault.ParseFault.{ParseFault}
+use Rattle.smv_parse.specs.declared.fault.ParseFault.TheVariants as parse_fault
 use Rattle.sat_log.specs.declared.fault.LogFault.{LogFault}
 use Rattle.sat_log.specs.declared.fault.LogFault.TheVariants as log_fault
 use Rattle.shell.specs.declared.event.Cause.{Cause}
@@ -31,9 +33,30 @@ log_fault_text (log_fault.NotAccepted id) = joined (codes "error 504: clause " �
 log_fault_text log_fault.Truncated = joined (codes "error 505: the log ends too early\n" ∷ [])
 log_fault_text (log_fault.NoMemory e) = joined (codes "error 900: out of memory\n" ∷ [])
 
+-- The line of a fault at a place of the model's text: line and column, then a word that it names, if it
+-- names one, and what is said.
+abbrev pub placed_text : List ℕ → Place → List ℕ → List ℕ → List ℕ
+placed_text head p word said = joined (head ∷ decimal p.line ∷ codes ":" ∷ decimal p.column ∷ codes ": " ∷ word ∷ said ∷ [])
+
+-- the line of a fault of a model: its number and its text
+abbrev pub parse_fault_text : ParseFault → List ℕ
+parse_fault_text (parse_fault.BadByte p) = placed_text (codes "error 101: ") p [] (codes "unexpected byte\n")
+parse_fault_text (parse_fault.BadWord p) = placed_text (codes "error 102: ") p [] (codes "bad word constant\n")
+parse_fault_text (parse_fault.NumberRange p) = placed_text (codes "error 103: ") p [] (codes "number out of range\n")
+parse_fault_text (parse_fault.Unexpected p) = placed_text (codes "error 104: ") p [] (codes "unexpected token\n")
+parse_fault_text (parse_fault.End p) = placed_text (codes "error 105: ") p [] (codes "unexpected end\n")
+parse_fault_text (parse_fault.Deep p) = placed_text (codes "error 106: ") p [] (codes "nested too deep\n")
+parse_fault_text (parse_fault.LeftOut p word) = placed_text (codes "error 107: ") p word (codes " is left out\n")
+parse_fault_text (parse_fault.Fairness p) = placed_text (codes "error 108: ") p [] (codes "fairness is left out\n")
+parse_fault_text (parse_fault.Past p) = placed_text (codes "error 109: ") p [] (codes "past operator is left out\n")
+parse_fault_text (parse_fault.InvarSpec p) = placed_text (codes "error 110: ") p [] (codes "INVARSPEC is left out\n")
+parse_fault_text (parse_fault.LongName p) = placed_text (codes "error 111: ") p [] (codes "name longer than 255 bytes\n")
+parse_fault_text (parse_fault.NoMemory e) = joined (codes "error 900: out of memory\n" ∷ [])
+
 -- a refusal's line: its number and its text
 abbrev pub refusal_text : Refusal → List ℕ
 refusal_text refusal.NotBuilt = joined (codes "error 899: not built yet\n" ∷ [])
+refusal_text (refusal.BadModel fault) = parse_fault_text fault
 refusal_text (refusal.NoValue line name) = joined (codes "error 616: line " ∷ decimal line ∷ codes ": no value for " ∷ name ∷ codes "\n" ∷ [])
 refusal_text (refusal.BadLog fault) = log_fault_text fault
 refusal_text (refusal.NoFile name) = joined (codes "error 646: " ∷ name ∷ codes ": no such file\n" ∷ [])

@@ -1,5 +1,6 @@
 use outside::Text;
 use sat_log::LogFault;
+use smv_parse::ParseFault;
 use smv_tree::Place;
 
 /// The constraint at which a replay stops, by the place of its section word.
@@ -14,6 +15,8 @@ pub enum Cause {
 pub enum Refusal {
     /// The line asks for what is not built yet.
     NotBuilt,
+    /// The text of the model has a fault.
+    BadModel(ParseFault),
     /// A section of a trace lacks a value: the line of the section, and the name.
     NoValue(u64, Text),
     /// The file has no log.

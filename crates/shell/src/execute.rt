@@ -9,7 +9,7 @@ use crate::files::read_file;
 use crate::judge::judge;
 use crate::model::Model;
 use outside::{Files, Text};
-use smv_parse::{ParseFault, parse_model};
+use smv_parse::{ParseFault, is_first_form, parse_model};
 use std::alloc::{AllocError, Global};
 
 /// A model or a trace has at most so many bytes.
@@ -22,9 +22,14 @@ fn model_of(alloc: Global, text: &[u8]) -> Result<Model, Refusal>
 {
     let program = match parse_model(alloc, text) {
         Ok(program) => program,
-        Err(ParseFault::Refused) => return Err(Refusal::NotBuilt),
         Err(ParseFault::NoMemory(_)) => return Err(Refusal::NoMemory),
+        Err(fault) => return Err(Refusal::BadModel(fault)),
     };
+    match is_first_form(alloc, text) {
+        Ok(true) => {}
+        Ok(false) => return Err(Refusal::NotBuilt),
+        Err(AllocError) => return Err(Refusal::NoMemory),
+    }
     match Model::of(alloc, program) {
         Ok(Some(model)) => Ok(model),
         Ok(None) => Err(Refusal::NotBuilt),

@@ -1,14 +1,16 @@
-ghost use Rattle.std.specs.Prelude.{◌≡◌, ◌≤◌, ◌⊎◌, ◌∷◌, [], ℕ, List, OnOk, OnErr, decimal, flat_map};
+ghost use Rattle.std.specs.Prelude.{◌≡◌, ◌≤◌, ◌⊎◌, ◌∷◌, [], ℕ, List, OnOk, OnErr, codes, decimal, flat_map};
 ghost use Rattle.std.specs.Io.KnownBytes.{append_known};
 ghost use Rattle.outside.specs.Told.{AddsFront, HasRisen};
-ghost use Rattle.shell.specs.Texts.{event_text, is_output, joined, log_fault_text, place_of, refusal_text, section_word};
-ghost use Rattle.shell.specs.Pieces.{fault_place, first_number, second_number, third_number};
+ghost use Rattle.shell.specs.Texts.{event_text, is_output, joined, log_fault_text, place_of, refusal_text, section_word, parse_fault_text};
+ghost use Rattle.shell.specs.Pieces.{column_of, fault_place, first_number, line_of, second_number, third_number};
+ghost use Rattle.smv_parse.specs.Faults.{place_of as fault_at};
 ghost use Rattle.shell.specs.Written.{WritesAll, WritesFront};
 
 use crate::event::{Cause, Event, Refusal};
 use itoa::Buffer;
 use outside::{Failed, Sink, put_parts};
 use sat_log::LogFault;
+use smv_parse::ParseFault;
 use smv_tree::Place;
 
 /// A line has at most so many parts; those that it does not need are empty.
@@ -60,13 +62,96 @@ fn log_fault_pieces<'a>(fault: &LogFault, number: &'a [u8]) -> [&'a [u8]; PARTS]
     }
 }
 
-/// The parts of the line of a refusal, from its number as it is written.
-fn refusal_pieces<'a>(refusal: &'a Refusal, number: &'a [u8]) -> [&'a [u8]; PARTS]
-    requires { number.now ≡ decimal (first_number (Event.Refused refusal.now)) }
+/// The parts of the line of a fault at a place, from its line and its column as they are written.
+fn placed<'a>(
+    head: &'a [u8],
+    line: &'a [u8],
+    column: &'a [u8],
+    word: &'a [u8],
+    said: &'a [u8],
+) -> [&'a [u8]; PARTS]
+    ensures { flat_map (λ p. p.now) result ≡ joined (head.now ∷ line.now ∷ codes ":" ∷ column.now ∷ codes ": " ∷ word.now ∷ said.now ∷ []) }
+{
+    [head, line, b":", column, b": ", word, said, b"", b""]
+}
+
+/// The parts of the line of a fault of a model, from its line and its column as they are written.
+fn parse_fault_pieces<'a>(
+    fault: &'a ParseFault,
+    line: &'a [u8],
+    column: &'a [u8],
+) -> [&'a [u8]; PARTS]
+    requires line { line.now ≡ decimal (line_of (fault_at fault.now)) }
+    requires column { column.now ≡ decimal (column_of (fault_at fault.now)) }
+    ensures { flat_map (λ p. p.now) result ≡ parse_fault_text fault.now }
+{
+    match fault {
+        ParseFault::BadByte(_) => placed(b"error 101: ", line, column, b"", b"unexpected byte\n"),
+        ParseFault::BadWord(_) => placed(b"error 102: ", line, column, b"", b"bad word constant\n"),
+        ParseFault::NumberRange(_) => placed(
+            b"error 103: ",
+            line,
+            column,
+            b"",
+            b"number out of range\n",
+        ),
+        ParseFault::Unexpected(_) => placed(
+            b"error 104: ",
+            line,
+            column,
+            b"",
+            b"unexpected token\n",
+        ),
+        ParseFault::End(_) => placed(b"error 105: ", line, column, b"", b"unexpected end\n"),
+        ParseFault::Deep(_) => placed(b"error 106: ", line, column, b"", b"nested too deep\n"),
+        ParseFault::LeftOut(_, word) => placed(
+            b"error 107: ",
+            line,
+            column,
+            word.as_slice(),
+            b" is left out\n",
+        ),
+        ParseFault::Fairness(_) => placed(
+            b"error 108: ",
+            line,
+            column,
+            b"",
+            b"fairness is left out\n",
+        ),
+        ParseFault::Past(_) => placed(
+            b"error 109: ",
+            line,
+            column,
+            b"",
+            b"past operator is left out\n",
+        ),
+        ParseFault::InvarSpec(_) => placed(
+            b"error 110: ",
+            line,
+            column,
+            b"",
+            b"INVARSPEC is left out\n",
+        ),
+        ParseFault::LongName(_) => placed(
+            b"error 111: ",
+            line,
+            column,
+            b"",
+            b"name longer than 255 bytes\n",
+        ),
+        ParseFault::NoMemory(_) => one(b"error 900: out of memory\n"),
+    }
+}
+
+/// The parts of the line of a refusal, from its numbers as they are written.
+fn refusal_pieces<'a>(refusal: &'a Refusal, number: &'a [u8], column: &'a [u8]) -> [&'a [u8]; PARTS]
+    requires first { number.now ≡ decimal (first_number (Event.Refused refusal.now)) }
+    requires second { column.now ≡ decimal (second_number (Event.Refused refusal.now)) }
     ensures { flat_map (λ p. p.now) result ≡ refusal_text refusal.now }
 {
     match refusal {
         Refusal::NotBuilt => one(b"error 899: not built yet\n"),
+        Refusal::BadModel(fault) => parse_fault_pieces(fault, number, column),
         Refusal::NoValue(_, name) => five(
             b"error 616: line ",
             number,
@@ -133,7 +218,7 @@ fn pieces<'a>(
             second,
             b"\n",
         ),
-        Event::Refused(refusal) => refusal_pieces(refusal, first),
+        Event::Refused(refusal) => refusal_pieces(refusal, first, second),
         Event::Usage => one(b"usage: nusat [-int] [-source file] [model.smv] | nusat -gen n\n"),
     }
 }
@@ -158,6 +243,17 @@ fn fault_place(fault: &LogFault) -> u64
     }
 }
 
+/// The line and the column of a fault of a model; 0 where it has no place.
+fn line_and_column(fault: &ParseFault) -> (u64, u64)
+    ensures line { result.0 ≡ line_of (fault_at fault.now) }
+    ensures column { result.1 ≡ column_of (fault_at fault.now) }
+{
+    match fault.place() {
+        Some(place) => (u64::from(place.line), u64::from(place.column)),
+        None => (0, 0),
+    }
+}
+
 /// The numbers in the text of an event, in their order; 0 where there are fewer than three.
 fn numbers(event: &Event) -> (u64, u64, u64)
     ensures first { result.0 ≡ first_number event.now }
@@ -174,6 +270,10 @@ fn numbers(event: &Event) -> (u64, u64, u64)
         Event::Refused(Refusal::NoValue(line, _)) => (*line, 0, 0),
         Event::Refused(Refusal::FileTooLong(_, limit)) => (*limit, 0, 0),
         Event::Refused(Refusal::BadLog(fault)) => (fault_place(fault), 0, 0),
+        Event::Refused(Refusal::BadModel(fault)) => {
+            let (line, column) = line_and_column(fault);
+            (line, column, 0)
+        }
         Event::Refused(_) | Event::Usage => (0, 0, 0),
     }
 }

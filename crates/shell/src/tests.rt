@@ -20,6 +20,7 @@ fn text(alloc: Global, bytes: &str) -> Result<Text, AllocError> {
 fn session<L: Ledger>(
     alloc: Global,
     word: &[u8],
+    model: &[u8],
     file: &Text,
     input: &[u8],
     room: usize,
@@ -34,7 +35,7 @@ fn session<L: Ledger>(
         words.push(Text::from_slice(alloc, word)?)?;
     }
     let mut files = MemFiles::new(alloc, &[])?;
-    files.put(&text(alloc, "m.smv")?, TOGGLE.as_bytes())?;
+    files.put(&text(alloc, "m.smv")?, model)?;
     files.put(&text(alloc, "t")?, file.as_slice())?;
     let mut input = MemSource::new(alloc, input, &[])?;
     let mut out = MemSink::new(alloc, room, &[])?;
@@ -59,7 +60,31 @@ fn said(
     input: &[u8],
     room: usize,
 ) -> Result<Text, AllocError> {
-    session::<Brand>(alloc, word.as_bytes(), file, input, room, Blank::new(1))
+    let toggle = TOGGLE.as_bytes();
+    session::<Brand>(
+        alloc,
+        word.as_bytes(),
+        toggle,
+        file,
+        input,
+        room,
+        Blank::new(1),
+    )
+}
+
+/// What is said of a model when a trace is to be executed on it.
+fn said_of_model(alloc: Global, model: &Text) -> Result<Text, AllocError> {
+    let trace = text(alloc, TWO_STATES)?;
+    let input = b"execute_text_trace t";
+    session::<Brand>(
+        alloc,
+        b"m.smv",
+        model.as_slice(),
+        &trace,
+        input,
+        99,
+        Blank::new(1),
+    )
 }
 
 #[test]
@@ -181,5 +206,76 @@ fn checks_logs(rt: HostRuntime) -> Result<(), AllocError> {
         let said = said(alloc, "", &log, b"check_log t", 99)?;
         assert!(rt; said.as_slice() == want.as_bytes(), "{want}");
     }
+    Ok(())
+}
+
+#[test]
+fn refuses_models(rt: HostRuntime) -> Result<(), AllocError> {
+    let alloc = rt.alloc();
+    let rows = [
+        (
+            "MODULE main\nVAR x : boolean;\nINIT !x\nTRANS next(x) = = x\n",
+            "error 104: 4:17: unexpected token\n0",
+        ),
+        ("@", "error 101: 1:1: unexpected byte\n0"),
+        (
+            "MODULE main\nINIT 0b2_111",
+            "error 102: 2:6: bad word constant\n0",
+        ),
+        (
+            "MODULE main\nINIT 9223372036854775808",
+            "error 103: 2:6: number out of range\n0",
+        ),
+        ("MODULE main\nINIT x =", "error 105: 2:9: unexpected end\n0"),
+        (
+            "MODULE main\nINIT array",
+            "error 107: 2:6: array is left out\n0",
+        ),
+        (
+            "MODULE main JUSTICE x",
+            "error 108: 1:13: fairness is left out\n0",
+        ),
+        (
+            "MODULE main LTLSPEC O x",
+            "error 109: 1:21: past operator is left out\n0",
+        ),
+        (
+            "MODULE main INVARSPEC x",
+            "error 110: 1:13: INVARSPEC is left out\n0",
+        ),
+        ("MODULE main INIT (TRUE)", "error 899: not built yet\n0"),
+        ("MODULE main() INIT TRUE", "error 899: not built yet\n0"),
+        (
+            "MODULE main INIT TRUE & TRUE",
+            "error 899: not built yet\n0",
+        ),
+        ("MODULE main INIT x", "error 899: not built yet\n0"),
+        ("", "error 899: not built yet\n0"),
+    ];
+    for (model, want) in rows {
+        let said = said_of_model(alloc, &text(alloc, model)?)?;
+        assert!(rt; said.as_slice() == want.as_bytes(), "{want}");
+    }
+    Ok(())
+}
+
+/// A model with this many bytes of one kind behind its front.
+fn long_model(alloc: Global, front: &str, byte: u8, count: usize) -> Result<Text, AllocError> {
+    let mut model = text(alloc, front)?;
+    for _ in 0..count {
+        model.push(byte)?;
+    }
+    Ok(model)
+}
+
+#[test]
+fn refuses_models_past_a_limit(rt: HostRuntime) -> Result<(), AllocError> {
+    let alloc = rt.alloc();
+    let deep = long_model(alloc, "MODULE main INIT ", b'!', 1001)?;
+    let said = said_of_model(alloc, &deep)?;
+    assert!(rt; said.as_slice() == b"error 106: 1:1018: nested too deep\n0".as_slice());
+    let long = long_model(alloc, "MODULE ", b'm', 256)?;
+    let said = said_of_model(alloc, &long)?;
+    assert!(rt; said.as_slice() == b"error 111: 1:8: name longer than 255 bytes\n0".as_slice());
     Ok(())
 }

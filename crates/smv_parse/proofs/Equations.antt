@@ -8,8 +8,8 @@ use Rattle.smv_tree.specs.Trees.{Tree, two}
 use Rattle.smv_parse.specs.declared.mark.Mark.{Mark}
 use Rattle.smv_parse.specs.declared.mark.Mark.TheVariants as marks
 use Rattle.smv_parse.specs.declared.token.Token.{Token}
-use Rattle.smv_parse.specs.Forms.{Form, Tail, gives, mark, numeral, part, last, operand, tail, deepest, following, following_level, infix_of, infix_tail, opening, opening_level, tail_by, to_right}
-use Rattle.smv_parse.specs.Reading.{Found, Out, Stop, wrong, deep, ◌>>=◌, added, again, at, begun, carried, expect, followed, going, joined, more, number_at, opened, read_form, reader, whole, within}
+use Rattle.smv_parse.specs.Forms.{Form, Loop, Tail, gives, mark, optional, numeral, part, last, dots, begins_dots, held, loosest, or_range, round, repeats, body, operand, tail, deepest, following, following_level, infix_of, infix_tail, opening, opening_level, tail_by, to_right}
+use Rattle.smv_parse.specs.Reading.{past_sign, Found, Out, Stop, wrong, deep, ◌>>=◌, added, again, at, begun, closed, behind_first, carried, dots_at, path_read, expect, followed, formed, going, joined, looped, more, number_at, one_of, option_at, opened, read_form, reader, whole, within}
 
 abbrev pub Below : Type 0
 Below = ℕ → List Token → Out
@@ -65,19 +65,40 @@ not_ltb a b h = search (rules, tests)
 pub lt_ltb : (a b : ℕ) → a < b → ltb a b ≡ true
 lt_ltb a b h = search (rules, tests)
 
+abbrev pub Jump : Type 0
+Jump = Loop → ℕ → List Token → Out
+
 -- what is read of a form is as deep as the parts before
-form_deep : (below : Below) (f : Form) (d : ℕ) (ts : List Token) (x : Found) → read_form below f d ts ≡ Ok x → d ≤ x.depth
+form_deep : (below : Below) (jump : Jump) → ((k : Loop) (d : ℕ) (ts : List Token) (x : Found) → jump k d ts ≡ Ok x → d ≤ x.depth) → (f : Form) (d : ℕ) (ts : List Token) (x : Found) → read_form below jump f d ts ≡ Ok x → d ≤ x.depth
 unfolding read_form
-form_deep below (gives t) d ts x e = let h : d ≡ x.depth = ap (λ (z : Found). z.depth) (ok_one (record { tree = t; depth = d; rest = ts }) x e) in omega arith
-form_deep below (mark m f) d ts x e = let b = bind_ok (expect m ts) (λ us. read_form below f d us) x e in form_deep below f d b.0 x b.2
-form_deep below (numeral f) d ts x e = let b = bind_ok (number_at ts) (λ z. read_form below (f z.0) (max d 1) z.1) x e in let h = form_deep below (f b.0.0) (max d 1) b.0.1 x b.2 in omega arith
-form_deep below (part l m f) d ts x e =
-    let b = bind_ok (below l ts) (λ a. expect m a.rest >>= (λ us. read_form below (f a.tree) (max d a.depth) us)) x e in
-    let c = bind_ok (expect m b.0.rest) (λ us. read_form below (f b.0.tree) (max d b.0.depth) us) x b.2 in
-    let h = form_deep below (f b.0.tree) (max d b.0.depth) c.0 x c.2 in omega arith
-form_deep below (last l f) d ts x e =
+form_deep below jump h (gives t) d ts x e = let h : d ≡ x.depth = ap (λ (z : Found). z.depth) (ok_one (record { tree = t; depth = d; rest = ts }) x e) in omega arith
+form_deep below jump h (mark m f) d ts x e = let b = bind_ok (expect m ts) (λ us. read_form below jump f d us) x e in form_deep below jump h f d b.0 x b.2
+form_deep below jump h (optional m f) d ts x e = form_deep below jump h (f (option_at m ts).0) d (option_at m ts).1 x e
+form_deep below jump h (numeral f) d ts x e = let b = bind_ok (number_at ts) (λ z. read_form below jump (f z.0) (max d 1) z.1) x e in let g = form_deep below jump h (f b.0.0) (max d 1) b.0.1 x b.2 in omega arith
+form_deep below jump h (part l m n f) d ts x e =
+    let b = bind_ok (below l ts) (λ a. one_of m n a.rest >>= (λ c. read_form below jump (f c.0 a.tree) (max d a.depth) c.1)) x e in
+    let c = bind_ok (one_of m n b.0.rest) (λ c. read_form below jump (f c.0 b.0.tree) (max d b.0.depth) c.1) x b.2 in
+    let g = form_deep below jump h (f c.0.0 b.0.tree) (max d b.0.depth) c.0.1 x c.2 in omega arith
+form_deep below jump h (dots f) d ts x e =
+    let b = bind_ok (dots_at ts) (path_read f d) x e in
+    let g : d ≡ x.depth = ap (λ (z : Found). z.depth) (ok_one (record { tree = f b.0.0; depth = d; rest = b.0.1 }) x b.2) in omega arith
+form_deep below jump h (or_range y f) d ts x e = by_test (begins_dots ts) (λ g. form_deep below jump h f d (behind_first ts) x g) e where
+  by_test : (b : Bool) → (read_form below jump f d (behind_first ts) ≡ Ok x → d ≤ x.depth) → cond b (read_form below jump f d (behind_first ts)) (Ok (record { tree = y; depth = d; rest = ts })) ≡ Ok x → d ≤ x.depth
+  by_test true g e = g e
+  by_test false g e = let s : d ≡ x.depth = ap (λ (z : Found). z.depth) (ok_one (record { tree = y; depth = d; rest = ts }) x e) in omega arith
+form_deep below jump h round d ts x e =
+    let b = bind_ok (below loosest ts) (closed d ts) x e in
+    let c = bind_ok (expect marks.CloseRound b.0.rest) (λ us. Ok (record { tree = b.0.tree; depth = max d (held ts b.0.depth); rest = us })) x b.2 in
+    let g : max d (held ts b.0.depth) ≡ x.depth = ap (λ (z : Found). z.depth) (ok_one (record { tree = b.0.tree; depth = max d (held ts b.0.depth); rest = c.0 }) x c.2) in omega (arith, g)
+form_deep below jump h (repeats k) d ts x e = h k d ts x e
+form_deep below jump h (last l f) d ts x e =
     let b = bind_ok (below l ts) (λ a. Ok (record { tree = f a.tree; depth = max d a.depth; rest = a.rest })) x e in
     let h : max d b.0.depth ≡ x.depth = ap (λ (z : Found). z.depth) (ok_one (record { tree = f b.0.tree; depth = max d b.0.depth; rest = b.0.rest }) x b.2) in omega arith
+
+looped_deep : (below : Below) (n : ℕ) (k : Loop) (d : ℕ) (ts : List Token) (x : Found) → looped below n k d ts ≡ Ok x → d ≤ x.depth
+unfolding looped
+looped_deep below zero k d ts x e = absurd (cc)
+looped_deep below (suc n) k d ts x e = form_deep below (looped below n) (λ k d ts x e. looped_deep below n k d ts x e) (body k) d ts x e
 
 within_ok : (n room : ℕ) (ts : List Token) (r : Out) (x : Found) → within n room ts r ≡ Ok x → r ≡ Ok x
 within_ok n room ts r x e = by_test (ltb n room) e where
@@ -89,7 +110,7 @@ added_deep : (below : Below) (same : Same) (room : ℕ) (a : Tree) (d : ℕ) (o 
 added_deep below same room a d (operand f) ts x e =
     let b = bind_ok (same ts) (joined f a d) x e in
     let h : max d b.0.depth ≡ x.depth = ap (λ (z : Found). z.depth) (ok_one (record { tree = f a b.0.tree; depth = max d b.0.depth; rest = b.0.rest }) x b.2) in omega arith
-added_deep below same room a d (tail n f) ts x e = form_deep below (f a) d ts x (within_ok n room ts (read_form below (f a) d ts) x e)
+added_deep below same room a d (tail n f) ts x e = form_deep below (looped below (suc (length ts))) (λ k d us x e. looped_deep below (suc (length ts)) k d us x e) (f a) d ts x (within_ok n room ts (formed below (f a) d ts) x e)
 
 followed_grows : (below : Below) (same : Same) (room : ℕ) (a : Tree) (d : ℕ) (ts : List Token) (y : Found) → followed below same room a d ts ≡ Ok y → Grows d y
 unfolding followed
@@ -138,20 +159,20 @@ err_not_ok s x e = absurd (cc)
 -- where no room is left nothing is read, whatever reads the parts
 begun_none : (b c : Below) (o : Option (ℕ × ℕ × Form)) (ts : List Token) → (begun b 0 o ts ≡ begun c 0 o ts) × ((x : Found) → begun b 0 o ts ≡ Ok x → ⊥)
 begun_none b c None ts = (refl, λ x e. absurd (cc))
-begun_none b c (Some o) ts = let h = not_ltb o.1 0 (omega arith) in (rw h refl, λ x e. let P : Bool → Type 0 = λ k. cond k (read_form b o.2 0 ts) (Err (deep (length ts))) ≡ Ok x in absurd (err_not_ok (deep (length ts)) x (subst P h e)))
+begun_none b c (Some o) ts = let h = not_ltb o.1 0 (omega arith) in (rw h refl, λ x e. let P : Bool → Type 0 = λ k. cond k (formed b o.2 0 ts) (Err (deep (length ts))) ≡ Ok x in absurd (err_not_ok (deep (length ts)) x (subst P h e)))
 
 opened_none : (b c : Below) (ts : List Token) → (opened b 0 ts ≡ opened c 0 ts) × ((x : Found) → opened b 0 ts ≡ Ok x → ⊥)
 unfolding opened
 opened_none b c [] = (refl, λ x e. absurd (cc))
 opened_none b c (t ∷ ts) =
-    let h = begun_none b c (opening t) ts in
-    (ap (λ r. r >>= whole) h.0, λ x e. let k = bind_ok (begun b 0 (opening t) ts) whole x e in absurd (h.1 k.0 k.1))
+    let h = begun_none b c (opening (t ∷ ts)) ts in
+    (ap (λ r. r >>= whole) h.0, λ x e. let k = bind_ok (begun b 0 (opening (t ∷ ts)) ts) whole x e in absurd (h.1 k.0 k.1))
 
 none_then : (r : Out) (f g : Found → Out) → ((x : Found) → r ≡ Ok x → ⊥) → (r >>= f) ≡ (r >>= g)
 none_then (Err s) f g h = refl
 none_then (Ok x) f g h = absurd (h x refl)
 
-at_none : (b : Below) (l : ℕ) (ts : List Token) (x : Found) → at b 0 l ts ≡ Ok x → ⊥
+pub at_none : (b : Below) (l : ℕ) (ts : List Token) (x : Found) → at b 0 l ts ≡ Ok x → ⊥
 unfolding at
 at_none b zero ts x e = absurd (cc)
 at_none b (suc l) ts x e =
@@ -161,7 +182,7 @@ at_none b (suc l) ts x e =
       by_test tighter true y e = (opened_none b b ts).1 y e
       by_test tighter false y e = tighter y e
 
-no_level : (room : ℕ) (ts : List Token) → reader room 0 ts ≡ Err (wrong (length ts))
+no_level : (room : ℕ) (ts : List Token) → reader room 0 ts ≡ Err (wrong (length (past_sign ts)))
 unfolding reader at
 no_level zero ts = refl
 no_level (suc r) ts = refl
@@ -248,7 +269,7 @@ reads_up room (suc l) ts ho hl =
           ∙ bind_same r (going room (opening_level ts)) (climb room (opening_level ts) (suc l - opening_level ts)) (climb_none room (opening_level ts) (suc l - opening_level ts) (omega arith))
 
 -- nothing is read where the first token begins nothing, or something looser
-pub nothing_begins : (room l : ℕ) (ts : List Token) → (1 ≤ opening_level ts → l < opening_level ts) → reader room l ts ≡ Err (wrong (length ts))
+pub nothing_begins : (room l : ℕ) (ts : List Token) → (1 ≤ opening_level ts → l < opening_level ts) → reader room l ts ≡ Err (wrong (length (past_sign ts)))
 nothing_begins room zero ts h = no_level room ts
 nothing_begins room (suc l) ts h =
     let far : opening_level ts ≡ suc l → ⊥ = λ e. omega (arith, h (omega arith)) in
@@ -256,16 +277,6 @@ nothing_begins room (suc l) ts h =
     opens_tighter room (suc l) ts (omega arith) far
     ∙ ap (λ k. reader room k ts >>= going room (suc l)) s
     ∙ ap (λ q. q >>= going room (suc l)) (nothing_begins room l ts (λ k. omega (arith, h k)))
-
-pub climb_more : (room k l : ℕ) (x : Found) → k < l → climb room k (l - k) x ≡ (going room k x >>= climb room (k + 1) (l - (k + 1)))
-unfolding climb
-climb_more room k l x h =
-    let e : l - k ≡ suc (l - (k + 1)) = omega arith in
-    let s : suc k ≡ k + 1 = omega arith in
-    ap (λ n. climb room k n x) e ∙ ap (λ j. going room k x >>= climb room j (l - (k + 1))) s
-
-pub climb_end : (room k l : ℕ) (x : Found) → l ≡ k → climb room k (l - k) x ≡ going room k x
-climb_end room k l x h = sym (climb_none room k (l - k) (omega arith) x)
 
 -- what is read had room
 pub had_room : (room : ℕ) (ts : List Token) (x : Found) → opened (reader (room - 1)) room ts ≡ Ok x → 1 ≤ room

@@ -1,13 +1,13 @@
 -- Reading the tokens of a text, one piece after the other.
-use Rattle.std.proofs.Common.{◌≡◌, ◌≤◌, ◌-◌, ℕ, zero, suc, Bool, true, List, [], ◌∷◌, ◌++◌, length, take, drop, fold, Some, None, Ok, Err, refl, sym, ◌∙◌, ap, append_assoc, append-nil, arith}
+use Rattle.std.proofs.Common.{◌≡◌, ◌≤◌, ◌-◌, ℕ, zero, suc, Bool, true, false, ◌==◌, List, [], ◌∷◌, ◌++◌, length, take, drop, fold, Some, None, Ok, Err, refl, sym, ◌∙◌, ap, append_assoc, append-nil, arith}
 use Rattle.std.specs.List.{prefix_len}
-use Rattle.std.proofs.lemmas.List.{take-append-drop}
+use Rattle.std.proofs.lemmas.List.{length-take-le, take-append-drop}
 use Rattle.std.proofs.lemmas.List.Sums.{prefix_len-le-length}
 use Rattle.smv_tree.specs.declared.place.Place.{Place}
 use Rattle.smv_parse.specs.declared.token.Flaw.{Flaw}
 use Rattle.smv_parse.specs.declared.token.Token.{Token}
 use Rattle.smv_parse.specs.declared.token.Piece.{Piece}
-use Rattle.smv_parse.specs.Tokens.{Fits, Scanned, after, joined, piece_at, stopped, token_of, tokens_from, with_front}
+use Rattle.smv_parse.specs.Tokens.{Fits, Scanned, after, cut_name, joined, piece_at, stopped, token_of, tokens_from, with_front}
 
 pub front_within : (p : ℕ → Bool) (bs : List ℕ) → prefix_len p bs ≤ length bs
 front_within p bs = prefix_len-le-length p bs
@@ -22,19 +22,33 @@ passes p zero bs h = refl
 passes p (suc n) [] h = absurd (omega arith)
 passes p (suc n) (b ∷ bs) h = passes (after p b) n bs (omega arith)
 
-stops_here : (p : Place) (bs : List ℕ) (f : Flaw) → Err f ≡ piece_at bs → 1 ≤ length bs → tokens_from p 0 bs ≡ stopped p f
+stops_here : (p : Place) (bs : List ℕ) (f : Flaw) → Err f ≡ piece_at bs → 1 ≤ length bs → tokens_from p 0 bs ≡ stopped p bs f
 unfolding tokens_from
 stops_here p [] f e h = absurd (omega arith)
 stops_here p (b ∷ bs) f e h = ap (joined p (b ∷ bs) (λ n. tokens_from (after p b) n bs)) (sym e)
 
+some_left : (bs : List ℕ) → false ≡ (length bs == 0) → 1 ≤ length bs
+some_left [] h = absurd (cc)
+some_left (b ∷ bs) h = omega arith
+
 -- the loop's end at what is no token
-pub no_piece : (front : List Token) (p : Place) (bs : List ℕ) (f : Flaw) (all : Scanned) → Err f ≡ piece_at bs → (length bs ≡ 0 → ⊥) → with_front front (tokens_from p 0 bs) ≡ all → record { tokens = front; stop = Some (p, f) } ≡ all
-no_piece front p bs f all e h ea =
-    let s = stops_here p bs f e (omega arith) in
-    ap (λ ts. record { tokens = ts; stop = Some (p, f) }) (sym (append-nil front)) ∙ ap (with_front front) (sym s) ∙ ea
+pub no_piece : (front new : List Token) (p : Place) (bs : List ℕ) (f : Flaw) (all : Scanned) → Err f ≡ piece_at bs → false ≡ (length bs == 0) → new ≡ front ++ cut_name p bs f → with_front front (tokens_from p 0 bs) ≡ all → record { tokens = new; stop = Some (p, f) } ≡ all
+no_piece front new p bs f all e h ew ea =
+    let s = stops_here p bs f e (some_left bs h) in
+    ap (λ ts. record { tokens = ts; stop = Some (p, f) }) ew ∙ ap (with_front front) (sym s) ∙ ea
+
+pub front_length : (n : ℕ) (bs : List ℕ) → n ≤ length bs → length (take n bs) ≡ n
+front_length n bs h = length-take-le n bs h
+
+-- no more bytes than there are
+pub front_of : (n : ℕ) (bs : List ℕ) → length bs ≤ n → take n bs ≡ bs
+front_of zero [] h = refl
+front_of zero (b ∷ bs) h = absurd (omega arith)
+front_of (suc n) [] h = refl
+front_of (suc n) (b ∷ bs) h = ap (λ cs. b ∷ cs) (front_of n bs (omega arith))
 
 -- what is left to read after the piece at the front
-after_piece : (p : Place) (bs : List ℕ) (k : ℕ × Piece) → piece_at bs ≡ Ok k → 1 ≤ k.0 → k.0 ≤ length bs → tokens_from p 0 bs ≡ with_front (token_of p k.1 (take k.0 bs)) (tokens_from (fold after p (take k.0 bs)) 0 (drop k.0 bs))
+pub after_piece : (p : Place) (bs : List ℕ) (k : ℕ × Piece) → piece_at bs ≡ Ok k → 1 ≤ k.0 → k.0 ≤ length bs → tokens_from p 0 bs ≡ with_front (token_of p k.1 (take k.0 bs)) (tokens_from (fold after p (take k.0 bs)) 0 (drop k.0 bs))
 unfolding tokens_from
 after_piece p [] k e some fits = absurd (omega arith)
 after_piece p (b ∷ bs) (zero, m) e some fits = absurd (omega arith)

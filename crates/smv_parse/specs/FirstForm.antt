@@ -1,11 +1,12 @@
 -- The tokens of the models that are read so far: no operators but `!` and `=`, and no brackets but
 -- those of `next` around a name.
-use Rattle.std.specs.Prelude.{Bool, true, false, List, [], ◌∷◌, Option, Some, None}
+use Rattle.std.specs.Prelude.{◌≡◌, ℕ, Bool, true, false, List, [], ◌∷◌, Option, Some, None}
 use Rattle.smv_parse.specs.declared.first_form.Stage.{Stage}
 use Rattle.smv_parse.specs.declared.first_form.Stage.TheVariants as stage
 use Rattle.smv_parse.specs.declared.mark.Mark.{Mark}
 use Rattle.smv_parse.specs.declared.mark.Mark.TheVariants as marks
 use Rattle.smv_parse.specs.declared.token.Token.{Token}
+use Rattle.smv_parse.specs.Tokens.{scanned}
 use Rattle.smv_parse.specs.declared.token.Lexeme.{Lexeme}
 use Rattle.smv_parse.specs.declared.token.Lexeme.TheVariants as lexeme
 
@@ -53,3 +54,7 @@ first_from s (t ∷ ts) = goes_on (λ n. first_from n ts) (behind s t.lexeme)
 -- these are such tokens
 abbrev pub is_first : List Token → Bool
 is_first ts = first_from stage.Free ts
+
+-- the tokens of a text are such
+abbrev pub IsFirstForm : List ℕ → Type 0
+IsFirstForm bytes = is_first (scanned bytes).tokens ≡ true

@@ -13,3 +13,9 @@ Halts (halts.NoMemory e) out = Unit {0}
 abbrev pub Reads : {X Y : Type 0} → (X → Y) → Result X Halt → Result Y Stop → Type 0
 Reads view (Ok x) out = out ≡ Ok (view x)
 Reads view (Err h) out = Halts h out
+
+-- memory ran out
+abbrev pub IsMemory : Halt → Type 0
+IsMemory (halts.Wrong n) = ⊥
+IsMemory (halts.Deep n) = ⊥
+IsMemory (halts.NoMemory e) = Unit {0}

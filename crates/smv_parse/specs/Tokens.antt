@@ -141,13 +141,19 @@ pub record Scanned : Type 0 where
 abbrev pub with_front : List Token → Scanned → Scanned
 with_front front s = record { tokens = front ++ s.tokens; stop = s.stop }
 
-abbrev pub stopped : Place → Flaw → Scanned
-stopped p f = record { tokens = []; stop = Some (p, f) }
+-- A name that is too long stands as a token too, by its first 255 bytes: what is wrong at its place for
+-- another reason goes before its length.
+abbrev pub cut_name : Place → List ℕ → Flaw → List Token
+cut_name p bs flaw.LongName = token_of p piece.Name (take 255 bs)
+cut_name p bs f = []
+
+abbrev pub stopped : Place → List ℕ → Flaw → Scanned
+stopped p bs f = record { tokens = cut_name p bs f; stop = Some (p, f) }
 
 -- the token of a piece, and those after it
 abbrev pub joined : Place → List ℕ → (ℕ → Scanned) → Result (ℕ × Piece) Flaw → Scanned
 joined p bs more (Ok k) = with_front (token_of p k.1 (take k.0 bs)) (more (k.0 - 1))
-joined p bs more (Err f) = stopped p f
+joined p bs more (Err f) = stopped p bs f
 
 -- The tokens of a text that begins at a place, where so many bytes still belong to the piece before.
 unfoldable pub tokens_from : Place → ℕ → List ℕ → Scanned

@@ -1,98 +1,29 @@
-ghost use Rattle.std.specs.Prelude.{◌≡◌, ◌-◌, ◌<◌, ◌≤◌, ◌∷◌, [], IfOk, Some};
-ghost use Rattle.smv_tree.specs.Trees.{expr_tree, name as name_tree, next, one, two};
+ghost use Rattle.std.specs.Prelude.{◌≡◌, ◌-◌, ◌<◌, ◌≤◌, ◌∷◌, ◌++◌, [], IfOk, None, OnOk, Some, length, suc, ℕ};
+ghost use Rattle.smv_tree.specs.Trees.{expr_tree, next, one};
 ghost use Rattle.smv_parse.specs.Halts.{Reads};
 ghost use Rattle.smv_parse.specs.Part.{found_of};
-ghost use Rattle.smv_parse.specs.Forms.{alone, applied, bracketed, branching, following_level, form, function_form, implying, level_of, opening, operand, prefixed, selection, tail_by, widened};
-ghost use Rattle.smv_parse.specs.Reading.{added, begun, carried, expect, followed, going, number_at, opened, reader, whole};
+ghost use Rattle.smv_parse.specs.Forms.{a_case, a_set, applied, begins_range, body, bracketed, branch, branching, closed_below, counting, deepest, following_level, form, function_form, implying, infix_of, level_of, loosest, opening, operands, prefixed, tail_by, widened, with_minus};
+ghost use Rattle.smv_parse.specs.Pending.{Leads, finished, resumed, so_far, stepped, up_to};
+ghost use Rattle.smv_parse.specs.Reading.{added, begun, carried, formed, opened, reader};
 
-use crate::forms::{capped, following_level, function_of, infix_of, opening_level, to_right};
+use crate::enclosed::range_closed;
+use crate::forms::{
+    LOOSEST, capped, closed_below, closer, following_level, function_of, infix_of, opening_level,
+    range_follows,
+};
+use crate::front::{expect, number_at, one_of, option_at, past_sign, until};
 use crate::halt::Halt;
 use crate::mark::Mark;
 use crate::part::Part;
+use crate::pending::Pending;
+use crate::simple::{
+    below_zero, cased, constant, deeper, finish, leaf, listed, number, push_branch, push_operand,
+    selected, variable,
+};
 use crate::token::{Lexeme, Token};
-use smv_tree::{Expr, Name, Op1, Op2, Path, Place, WordVal};
-use std::alloc::{AllocError, Global};
-
-/// The tokens after a mark.
-#[tactic(auto, unfolding(crate::specs::Reading::same_mark))]
-fn expect(mark: Mark, tokens: &[Token]) -> Result<&[Token], Halt>
-    ensures { Reads (λ x. x.now) result (expect mark tokens.now) }
-{
-    let [first, rest @ ..] = tokens else {
-        return Err(Halt::Wrong(0));
-    };
-    match first.lexeme {
-        Lexeme::Mark(found) if mark == found => Ok(rest),
-        _ => Err(Halt::Wrong(tokens.len())),
-    }
-}
-
-/// The number at the front, and the tokens after it.
-fn number_at(tokens: &[Token]) -> Result<(u64, &[Token]), Halt>
-    ensures { Reads (λ x. (x.0, x.1.now)) result (number_at tokens.now) }
-{
-    let [first, rest @ ..] = tokens else {
-        return Err(Halt::Wrong(0));
-    };
-    match first.lexeme {
-        Lexeme::Number(value) => Ok((value, rest)),
-        _ => Err(Halt::Wrong(tokens.len())),
-    }
-}
-
-/// The same expression, one deeper than its deepest part, if it may be so deep.
-fn finish(part: Part, rest: &[Token]) -> Result<(Part, &[Token]), Halt>
-    ensures deeper { IfOk result (λ x. (part.depth < x.0.depth) × (x.0.depth ≤ 1000)) }
-    ensures value { Reads found_of result (whole (record { tree = expr_tree part.expr; depth = part.depth; rest = rest.now })) }
-{
-    if part.depth < 1000 {
-        let depth = part.depth + 1;
-        Ok((
-            Part {
-                expr: part.expr,
-                depth,
-            },
-            rest,
-        ))
-    } else {
-        Err(Halt::Deep(rest.len()))
-    }
-}
-
-/// What stands alone, behind its token.
-#[tactic(auto, unfolding(crate::specs::Reading::read_form))]
-fn leaf(room: u32, expr: Expr, rest: &[Token]) -> Result<(Part, &[Token]), Halt>
-    ensures { Reads found_of result (begun (reader (room - 1)) room (Some (alone (expr_tree expr))) rest.now) }
-{
-    if 0 < room {
-        Ok((Part { expr, depth: 0 }, rest))
-    } else {
-        Err(Halt::Deep(rest.len()))
-    }
-}
-
-/// A list of one name.
-fn one_name(alloc: Global, name: &Name) -> Result<Vec<Name>, AllocError>
-    ensures { IfOk result (λ v. v.items ≡ name.now ∷ []) }
-{
-    let mut names = Vec::new(alloc);
-    names.push(Name::from_vec(Vec::from_slice(alloc, name.as_slice())?))?;
-    Ok(names)
-}
-
-/// A name, behind it.
-fn variable<'a>(
-    alloc: Global,
-    room: u32,
-    place: Place,
-    name: &Name,
-    rest: &'a [Token],
-) -> Result<(Part, &'a [Token]), Halt>
-    ensures { Reads found_of result (begun (reader (room - 1)) room (Some (alone (name_tree place (name.now ∷ [])))) rest.now) }
-{
-    let names = one_name(alloc, name)?;
-    leaf(room, Expr::Name(place, Path::from_vec(names)), rest)
-}
+use crate::waiting::{completed, innermost};
+use smv_tree::{Expr, Op1, Op2, Place};
+use std::alloc::Global;
 
 /// An operand of a level behind a mark.
 #[cycle(expression)]
@@ -105,8 +36,8 @@ fn prefix(
     place: Place,
     tokens: &[Token],
 ) -> Result<(Part, &[Token]), Halt>
-    requires small { room ≤ 1001 }
-    requires loosest { level ≤ 15 }
+    requires small { room ≤ suc deepest }
+    requires loosest { level ≤ loosest }
     ensures { Reads found_of result (begun (reader (room - 1)) room (Some (prefixed level (one place op))) tokens.now) }
 {
     if room < 2 {
@@ -118,19 +49,26 @@ fn prefix(
     Ok((Part { expr, depth }, rest))
 }
 
-/// An expression in brackets, behind the first of them.
+/// An expression in brackets, behind the first of them. They add nothing to a range directly in them.
 #[cycle(expression)]
 #[tactic(auto, unfolding(crate::specs::Reading::read_form))]
 fn bracketed(alloc: Global, room: u32, tokens: &[Token]) -> Result<(Part, &[Token]), Halt>
-    requires small { room ≤ 1001 }
+    requires small { room ≤ suc deepest }
     ensures { Reads found_of result (begun (reader (room - 1)) room (Some bracketed) tokens.now) }
 {
     if room < 2 {
         return Err(Halt::Deep(tokens.len()));
     }
-    let (part, rest) = at(alloc, room - 1, 15, tokens)?;
-    let rest = expect(Mark::CloseRound, rest)?;
-    Ok((part, rest))
+    let (part, after) = at(alloc, room - 1, LOOSEST, tokens)?;
+    let rest = expect(Mark::CloseRound, after)?;
+    let depth = if range_closed(tokens) { 1 } else { part.depth };
+    Ok((
+        Part {
+            expr: part.expr,
+            depth,
+        },
+        rest,
+    ))
 }
 
 /// The next value of an expression, behind the word.
@@ -142,15 +80,15 @@ fn next_value(
     place: Place,
     tokens: &[Token],
 ) -> Result<(Part, &[Token]), Halt>
-    requires small { room ≤ 1001 }
+    requires small { room ≤ suc deepest }
     ensures { Reads found_of result (begun (reader (room - 1)) room (Some (applied (next place))) tokens.now) }
 {
     if room < 2 {
         return Err(Halt::Deep(tokens.len()));
     }
     let rest = expect(Mark::OpenRound, tokens)?;
-    let (part, rest) = at(alloc, room - 1, 15, rest)?;
-    let rest = expect(Mark::CloseRound, rest)?;
+    let (part, rest) = at(alloc, room - 1, LOOSEST, rest)?;
+    let rest = until(Mark::CloseRound, rest)?;
     let depth = part.depth;
     let expr = Expr::Next(place, Box::new(alloc, part.expr)?);
     Ok((Part { expr, depth }, rest))
@@ -166,7 +104,7 @@ fn function_by(
     function: Option<Op1>,
     tokens: &[Token],
 ) -> Result<(Part, &[Token]), Halt>
-    requires small { room ≤ 1001 }
+    requires small { room ≤ suc deepest }
     ensures { Reads found_of result (begun (reader (room - 1)) room (function_form place function) tokens.now) }
 {
     let Some(op) = function else {
@@ -176,8 +114,8 @@ fn function_by(
         return Err(Halt::Deep(tokens.len()));
     }
     let rest = expect(Mark::OpenRound, tokens)?;
-    let (part, rest) = at(alloc, room - 1, 15, rest)?;
-    let rest = expect(Mark::CloseRound, rest)?;
+    let (part, rest) = at(alloc, room - 1, LOOSEST, rest)?;
+    let rest = until(Mark::CloseRound, rest)?;
     let depth = part.depth;
     let expr = Expr::One(place, op, Box::new(alloc, part.expr)?);
     Ok((Part { expr, depth }, rest))
@@ -193,20 +131,129 @@ fn widening(
     resize: bool,
     tokens: &[Token],
 ) -> Result<(Part, &[Token]), Halt>
-    requires small { room ≤ 1001 }
+    requires small { room ≤ suc deepest }
     ensures { Reads found_of result (begun (reader (room - 1)) room (Some (widened place resize)) tokens.now) }
 {
     if room < 2 {
         return Err(Halt::Deep(tokens.len()));
     }
     let rest = expect(Mark::OpenRound, tokens)?;
-    let (part, rest) = at(alloc, room - 1, 15, rest)?;
-    let rest = expect(Mark::Comma, rest)?;
+    let (part, rest) = at(alloc, room - 1, LOOSEST, rest)?;
+    let rest = until(Mark::Comma, rest)?;
     let (width, rest) = number_at(rest)?;
     let rest = expect(Mark::CloseRound, rest)?;
     let depth = part.depth.max(1);
     let expr = Expr::Widen(place, resize, Box::new(alloc, part.expr)?, capped(width));
     Ok((Part { expr, depth }, rest))
+}
+
+/// The operands of a set, or of `count`, behind the mark before them.
+#[cycle(expression)]
+#[tactic(auto, using(crate::proofs::Loops::operand_read))]
+fn operands(
+    alloc: Global,
+    room: u32,
+    place: Place,
+    counts: bool,
+    tokens: &[Token],
+) -> Result<(Part, &[Token]), Halt>
+    requires small { room ≤ suc deepest }
+    ensures { Reads found_of result (formed (reader room) (body (operands place counts [])) 0 tokens.now) }
+{
+    let mut items = Vec::new(alloc);
+    let (mut depth, mut more, mut rest) = (0, true, tokens);
+    'operands: while more {
+        let (part, behind) = at(alloc, room, LOOSEST, rest)?;
+        (more, rest) = one_of(Mark::Comma, closer(counts), behind)?;
+        depth = deeper(depth, part.depth);
+        push_operand(&mut items, part.expr)?;
+    }
+    let expr = listed(place, counts, items);
+    Ok((Part { expr, depth }, rest))
+}
+
+/// The members of a set, behind the bracket.
+#[cycle(expression)]
+fn set(alloc: Global, room: u32, place: Place, tokens: &[Token]) -> Result<(Part, &[Token]), Halt>
+    requires small { room ≤ suc deepest }
+    ensures { Reads found_of result (begun (reader (room - 1)) room (Some (a_set place)) tokens.now) }
+{
+    if room < 2 {
+        return Err(Halt::Deep(tokens.len()));
+    }
+    operands(alloc, room - 1, place, false, tokens)
+}
+
+/// The operands of `count`, behind the word.
+#[cycle(expression)]
+#[tactic(auto, using(crate::proofs::Loops::count_read))]
+fn counting(
+    alloc: Global,
+    room: u32,
+    place: Place,
+    tokens: &[Token],
+) -> Result<(Part, &[Token]), Halt>
+    requires small { room ≤ suc deepest }
+    ensures { Reads found_of result (begun (reader (room - 1)) room (Some (counting place)) tokens.now) }
+{
+    if room < 2 {
+        return Err(Halt::Deep(tokens.len()));
+    }
+    let rest = expect(Mark::OpenRound, tokens)?;
+    operands(alloc, room - 1, place, true, rest)
+}
+
+/// The branches of a case, behind the word.
+#[cycle(expression)]
+#[tactic(auto, using(crate::proofs::Loops::branch_read))]
+fn cases(alloc: Global, room: u32, place: Place, tokens: &[Token]) -> Result<(Part, &[Token]), Halt>
+    requires small { room ≤ suc deepest }
+    ensures { Reads found_of result (formed (reader room) (branch place []) 0 tokens.now) }
+{
+    let mut items = Vec::new(alloc);
+    let (mut depth, mut done, mut rest) = (0, false, tokens);
+    'branches: while !done {
+        let (condition, behind) = at(alloc, room, LOOSEST, rest)?;
+        let after_colon = until(Mark::Colon, behind)?;
+        let (value, behind) = at(alloc, room, LOOSEST, after_colon)?;
+        let after_semicolon = until(Mark::Semicolon, behind)?;
+        let so_far = deeper(depth, condition.depth);
+        depth = deeper(so_far, value.depth);
+        push_branch(&mut items, condition.expr, value.expr)?;
+        (done, rest) = option_at(Mark::Esac, after_semicolon);
+    }
+    let expr = cased(place, items);
+    Ok((Part { expr, depth }, rest))
+}
+
+/// A case, behind the word.
+#[cycle(expression)]
+fn a_case(
+    alloc: Global,
+    room: u32,
+    place: Place,
+    tokens: &[Token],
+) -> Result<(Part, &[Token]), Halt>
+    requires small { room ≤ suc deepest }
+    ensures { Reads found_of result (begun (reader (room - 1)) room (Some (a_case place)) tokens.now) }
+{
+    if room < 2 {
+        return Err(Halt::Deep(tokens.len()));
+    }
+    cases(alloc, room - 1, place, tokens)
+}
+
+/// What a `-` begins, behind it.
+#[cycle(expression)]
+fn minus(alloc: Global, room: u32, place: Place, tokens: &[Token]) -> Result<(Part, &[Token]), Halt>
+    requires small { room ≤ suc deepest }
+    ensures { Reads found_of result (begun (reader (room - 1)) room (Some (with_minus place (begins_range tokens.now))) tokens.now) }
+{
+    if range_follows(tokens) {
+        below_zero(room, place, tokens)
+    } else {
+        prefix(alloc, room, 4, Op1::Neg, place, tokens)
+    }
 }
 
 /// What a mark begins, behind it.
@@ -218,18 +265,24 @@ fn opened_by(
     mark: Mark,
     tokens: &[Token],
 ) -> Result<(Part, &[Token]), Halt>
-    requires small { room ≤ 1001 }
-    ensures { Reads found_of result (begun (reader (room - 1)) room (form place mark) tokens.now) }
+    requires small { room ≤ suc deepest }
+    ensures { Reads found_of result (begun (reader (room - 1)) room (form place (begins_range tokens.now) mark) tokens.now) }
 {
     match mark {
         Mark::True => leaf(room, Expr::Truth(place, true), tokens),
         Mark::False => leaf(room, Expr::Truth(place, false), tokens),
+        Mark::SelfWord => variable(alloc, room, place, b"self".as_slice(), tokens),
         Mark::OpenRound => bracketed(alloc, room, tokens),
+        Mark::OpenCurly => set(alloc, room, place, tokens),
+        Mark::Count => counting(alloc, room, place, tokens),
+        Mark::Case => a_case(alloc, room, place, tokens),
+        Mark::UwConst => constant(room, place, false, tokens),
+        Mark::SwConst => constant(room, place, true, tokens),
         Mark::Next => next_value(alloc, room, place, tokens),
         Mark::Extend => widening(alloc, room, place, false, tokens),
         Mark::Resize => widening(alloc, room, place, true, tokens),
         Mark::Bang => prefix(alloc, room, 2, Op1::Not, place, tokens),
-        Mark::Minus => prefix(alloc, room, 4, Op1::Neg, place, tokens),
+        Mark::Minus => minus(alloc, room, place, tokens),
         _ => function_by(alloc, room, place, function_of(mark), tokens),
     }
 }
@@ -242,13 +295,13 @@ fn begun<'a>(
     first: &Token,
     tokens: &'a [Token],
 ) -> Result<(Part, &'a [Token]), Halt>
-    requires small { room ≤ 1001 }
-    ensures { Reads found_of result (begun (reader (room - 1)) room (opening first.now) tokens.now) }
+    requires small { room ≤ suc deepest }
+    ensures { Reads found_of result (begun (reader (room - 1)) room (opening (first.now ∷ tokens.now)) tokens.now) }
 {
     match &first.lexeme {
-        Lexeme::Name(name) => variable(alloc, room, first.place, name, tokens),
+        Lexeme::Name(name) => variable(alloc, room, first.place, name.as_slice(), tokens),
         Lexeme::Mark(mark) => opened_by(alloc, room, first.place, *mark, tokens),
-        Lexeme::Number(value) => leaf(room, Expr::Number(first.place, *value), tokens),
+        Lexeme::Number(value) => number(room, first.place, *value, tokens),
         Lexeme::Word(value) => leaf(room, Expr::Word(first.place, *value), tokens),
     }
 }
@@ -257,8 +310,7 @@ fn begun<'a>(
 #[cycle(expression)]
 #[tactic(auto, unfolding(crate::specs::Reading::opened))]
 fn opened(alloc: Global, room: u32, tokens: &[Token]) -> Result<(Part, &[Token]), Halt>
-    requires small { room ≤ 1001 }
-    ensures small { IfOk result (λ x. x.0.depth ≤ 1000) }
+    requires small { room ≤ suc deepest }
     ensures value { Reads found_of result (opened (reader (room - 1)) room tokens.now) }
 {
     let [first, rest @ ..] = tokens else {
@@ -266,35 +318,6 @@ fn opened(alloc: Global, room: u32, tokens: &[Token]) -> Result<(Part, &[Token])
     };
     let (part, rest) = begun(alloc, room, first, rest)?;
     finish(part, rest)
-}
-
-/// Bits of the expression before, behind the `[`.
-#[tactic(auto, unfolding(crate::specs::Reading::read_form))]
-fn selected(
-    alloc: Global,
-    room: u32,
-    left: Part,
-    place: Place,
-    tokens: &[Token],
-) -> Result<(Part, &[Token]), Halt>
-    ensures deeper { IfOk result (λ x. left.depth ≤ x.0.depth) }
-    ensures value { Reads found_of result (added (reader (room - 1)) (reader room 0) room (expr_tree left.expr) left.depth (selection place) tokens.now) }
-{
-    if room < 2 {
-        return Err(Halt::Deep(tokens.len()));
-    }
-    let (high, rest) = number_at(tokens)?;
-    let rest = expect(Mark::Colon, rest)?;
-    let (low, rest) = number_at(rest)?;
-    let rest = expect(Mark::CloseSquare, rest)?;
-    let depth = left.depth.max(1);
-    let expr = Expr::Select(
-        place,
-        Box::new(alloc, left.expr)?,
-        capped(high),
-        capped(low),
-    );
-    Ok((Part { expr, depth }, rest))
 }
 
 /// The right side of an implication, behind the arrow.
@@ -308,11 +331,10 @@ fn implication(
     tokens: &[Token],
 ) -> Result<(Part, &[Token]), Halt>
     requires some { 1 ≤ room }
-    requires small { room ≤ 1001 }
-    ensures deeper { IfOk result (λ x. left.depth ≤ x.0.depth) }
+    requires small { room ≤ suc deepest }
     ensures value { Reads found_of result (added (reader (room - 1)) (reader room 0) room (expr_tree left.expr) left.depth (implying place) tokens.now) }
 {
-    let (right, rest) = at(alloc, room - 1, 15, tokens)?;
+    let (right, rest) = at(alloc, room - 1, LOOSEST, tokens)?;
     let depth = left.depth.max(right.depth);
     let premise = Box::new(alloc, left.expr)?;
     let expr = Expr::Two(place, Op2::Implies, premise, Box::new(alloc, right.expr)?);
@@ -330,12 +352,11 @@ fn branches(
     tokens: &[Token],
 ) -> Result<(Part, &[Token]), Halt>
     requires some { 1 ≤ room }
-    requires small { room ≤ 1001 }
-    ensures deeper { IfOk result (λ x. left.depth ≤ x.0.depth) }
+    requires small { room ≤ suc deepest }
     ensures value { Reads found_of result (added (reader (room - 1)) (reader room 0) room (expr_tree left.expr) left.depth (branching place) tokens.now) }
 {
-    let (then, rest) = at(alloc, room - 1, 15, tokens)?;
-    let rest = expect(Mark::Colon, rest)?;
+    let (then, rest) = at(alloc, room - 1, LOOSEST, tokens)?;
+    let rest = until(Mark::Colon, rest)?;
     let (other, rest) = at(alloc, room - 1, 13, rest)?;
     let depth = left.depth.max(then.depth).max(other.depth);
     let condition = Box::new(alloc, left.expr)?;
@@ -344,34 +365,9 @@ fn branches(
     Ok((Part { expr, depth }, rest))
 }
 
-/// The right operand of an operator of a level, behind the operator.
+/// What an operator that is followed by no operand of a tighter level adds, behind the operator.
 #[cycle(expression)]
-#[tactic(auto, unfolding(crate::specs::Reading::read_form))]
-fn infix(
-    alloc: Global,
-    room: u32,
-    level: u32,
-    left: Part,
-    place: Place,
-    op: Op2,
-    tokens: &[Token],
-) -> Result<(Part, &[Token]), Halt>
-    requires some { 1 ≤ room }
-    requires small { room ≤ 1001 }
-    requires level { 1 ≤ level }
-    requires loosest { level ≤ 15 }
-    ensures deeper { IfOk result (λ x. left.depth ≤ x.0.depth) }
-    ensures value { Reads found_of result (added (reader (room - 1)) (reader room (level - 1)) room (expr_tree left.expr) left.depth (operand (two place op)) tokens.now) }
-{
-    let (right, rest) = at(alloc, room, level - 1, tokens)?;
-    let depth = left.depth.max(right.depth);
-    let operand = Box::new(alloc, left.expr)?;
-    let expr = Expr::Two(place, op, operand, Box::new(alloc, right.expr)?);
-    Ok((Part { expr, depth }, rest))
-}
-
-/// What an operator of a level adds to an expression, behind the operator.
-#[cycle(expression)]
+#[tactic(auto, using(crate::proofs::Resumed::no_tail))]
 fn carried(
     alloc: Global,
     room: u32,
@@ -382,41 +378,86 @@ fn carried(
     tokens: &[Token],
 ) -> Result<(Part, &[Token]), Halt>
     requires some { 1 ≤ room }
-    requires small { room ≤ 1001 }
+    requires small { room ≤ suc deepest }
     requires own { level_of (tail_by place mark) ≡ level }
-    requires level { 1 ≤ level }
-    requires loosest { level ≤ 15 }
-    ensures deeper { IfOk result (λ x. left.depth ≤ x.0.depth) }
+    requires other { infix_of mark ≡ None }
     ensures value { Reads found_of result (carried (reader (room - 1)) (reader room (level - 1)) room (expr_tree left.expr) left.depth (tail_by place mark) tokens.now) }
 {
     match mark {
         Mark::OpenSquare => selected(alloc, room, left, place, tokens),
         Mark::Question => branches(alloc, room, left, place, tokens),
         Mark::Arrow => implication(alloc, room, left, place, tokens),
-        _ => match infix_of(mark) {
-            Some((_, op)) => infix(alloc, room, level, left, place, op, tokens),
-            None => Err(Halt::Wrong(tokens.len() + 1)),
-        },
+        _ => Err(Halt::Wrong(tokens.len() + 1)),
     }
 }
 
-/// The expression with the operator of a level after it.
+/// The first operand of an expression of a level, and the level of what it begins.
 #[cycle(expression)]
-#[tactic(auto, unfolding(crate::specs::Reading::followed))]
-fn followed(
+#[tactic(auto, using(crate::proofs::Equations::nothing_begins))]
+fn first_operand(
+    alloc: Global,
+    room: u32,
+    level: u32,
+    tokens: &[Token],
+) -> Result<(u32, Part, &[Token]), Halt>
+    requires small { room ≤ suc deepest }
+    ensures some { IfOk result (λ x. 1 ≤ room) }
+    ensures least { IfOk result (λ x. 1 ≤ x.0) }
+    ensures shorter { IfOk result (λ x. length x.2.now < length tokens.now) }
+    ensures value { Leads (λ x. up_to room x.0 level (so_far x)) result (reader room level tokens.now) }
+{
+    let from = opening_level(tokens);
+    if from == 0 || from > level {
+        return Err(Halt::Wrong(past_sign(tokens).len()));
+    }
+    let (part, rest) = opened(alloc, room, tokens)?;
+    Ok((from, part, rest))
+}
+
+/// The expression with an operator after it that waits for nothing.
+#[cycle(expression)]
+fn extended(
     alloc: Global,
     room: u32,
     level: u32,
     left: Part,
+    place: Place,
+    mark: Mark,
     tokens: &[Token],
-) -> Result<(Part, &[Token]), Halt>
+) -> Result<(u32, Part, &[Token]), Halt>
     requires some { 1 ≤ room }
-    requires small { room ≤ 1001 }
+    requires small { room ≤ suc deepest }
+    requires own { level_of (tail_by place mark) ≡ level }
+    requires other { infix_of mark ≡ None }
+    ensures level { IfOk result (λ x. x.0 ≡ closed_below level) }
+    ensures shorter { IfOk result (λ x. length x.2.now ≤ length tokens.now) }
+    ensures value { Reads so_far result (finished (carried (reader (room - 1)) (reader room (level - 1)) room (expr_tree left.expr) left.depth (tail_by place mark) tokens.now)) }
+{
+    let (part, rest) = carried(alloc, room, level, left, place, mark, tokens)?;
+    let (part, rest) = finish(part, rest)?;
+    Ok((closed_below(level), part, rest))
+}
+
+/// What follows an expression of a level: the operator of that level, and for one that takes an operand
+/// of a tighter level the first operand behind it, before which the expression and the operator wait.
+#[cycle(expression)]
+#[tactic(auto, using(crate::proofs::Resumed::closed_least))]
+fn followed<'a>(
+    alloc: Global,
+    room: u32,
+    level: u32,
+    pending: &mut Vec<Pending>,
+    left: Part,
+    tokens: &'a [Token],
+) -> Result<(u32, Part, &'a [Token]), Halt>
+    requires some { 1 ≤ room }
+    requires small { room ≤ suc deepest }
     requires own { following_level tokens.now ≡ level }
     requires level { 1 ≤ level }
-    requires loosest { level ≤ 15 }
-    ensures deeper { IfOk result (λ x. (left.depth < x.0.depth) × (x.0.depth ≤ 1000)) }
-    ensures value { Reads found_of result (followed (reader (room - 1)) (reader room (level - 1)) room (expr_tree left.expr) left.depth tokens.now) }
+    ensures waits { OnOk result (length pending.new.items ≤ suc (length pending.old.items)) }
+    ensures least { IfOk result (λ x. 1 ≤ x.0) }
+    ensures shorter { IfOk result (λ x. length x.2.now < length tokens.now) }
+    ensures value { (l : ℕ) → Leads (λ x. resumed room l pending.new.items x.0 (so_far x)) result (stepped room l pending.old.items level (record { tree = expr_tree left.expr; depth = left.depth; rest = tokens.now })) }
 {
     let [first, rest @ ..] = tokens else {
         return Err(Halt::Wrong(0));
@@ -424,52 +465,42 @@ fn followed(
     let Lexeme::Mark(mark) = first.lexeme else {
         return Err(Halt::Wrong(tokens.len()));
     };
-    let (part, rest) = carried(alloc, room, level, left, first.place, mark, rest)?;
-    finish(part, rest)
+    let place = first.place;
+    let Some((level, op)) = infix_of(mark) else {
+        return extended(alloc, room, level, left, place, mark, rest);
+    };
+    let waiting = Pending {
+        left,
+        level,
+        place,
+        op,
+    };
+    let below = level - 1;
+    pending.push(waiting)?;
+    first_operand(alloc, room, below, rest)
 }
 
-/// The operators of a level after an expression.
+/// An expression of a level or a tighter one, with room for so many nestings and itself. What stands
+/// before an operator waits in a list while the operand behind it is read, so that only nestings recur.
 #[cycle(expression)]
-#[tactic(auto, using(crate::proofs::Equations::more_follows, crate::proofs::Equations::nothing_follows))]
-fn operators(
-    alloc: Global,
-    room: u32,
-    level: u32,
-    part: Part,
-    tokens: &[Token],
-) -> Result<(Part, &[Token]), Halt>
-    requires some { 1 ≤ room }
-    requires small { room ≤ 1001 }
-    requires level { 1 ≤ level }
-    requires loosest { level ≤ 15 }
-    ensures { Reads found_of result (going room level (record { tree = expr_tree part.expr; depth = part.depth; rest = tokens.now })) }
-{
-    let (mut left, mut rest) = (part, tokens);
-    'operators: while following_level(rest) == level {
-        (left, rest) = followed(alloc, room, level, left, rest)?;
-        if to_right(level) {
-            return Ok((left, rest));
-        }
-    }
-    Ok((left, rest))
-}
-
-/// An expression of a level or a tighter one, with room for so many nestings and itself.
-#[cycle(expression)]
-#[tactic(auto, using(crate::proofs::Equations::reads_up, crate::proofs::Equations::nothing_begins, crate::proofs::Equations::climb_more, crate::proofs::Equations::climb_end))]
 pub fn at(alloc: Global, room: u32, level: u32, tokens: &[Token]) -> Result<(Part, &[Token]), Halt>
-    requires small { room ≤ 1001 }
-    requires loosest { level ≤ 15 }
+    requires small { room ≤ suc deepest }
+    requires loosest { level ≤ loosest }
     ensures { Reads found_of result (reader room level tokens.now) }
 {
-    let mut from = opening_level(tokens);
-    if from == 0 || from > level {
-        return Err(Halt::Wrong(tokens.len()));
+    let mut pending = Vec::new(alloc);
+    let (mut from, mut left, mut rest) = first_operand(alloc, room, level, tokens)?;
+    'turns: loop {
+        let next = following_level(rest);
+        let last = innermost(level, pending.as_slice());
+        if from <= next && next <= last {
+            (from, left, rest) = followed(alloc, room, next, &mut pending, left, rest)?;
+            continue 'turns;
+        }
+        let Some(waiting) = pending.pop() else {
+            return Ok((left, rest));
+        };
+        from = waiting.level;
+        (left, rest) = completed(alloc, waiting, left, rest)?;
     }
-    let (mut left, mut rest) = opened(alloc, room, tokens)?;
-    'levels: while from < level {
-        (left, rest) = operators(alloc, room, from, left, rest)?;
-        from += 1;
-    }
-    operators(alloc, room, from, left, rest)
 }

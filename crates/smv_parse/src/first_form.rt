@@ -1,8 +1,10 @@
-ghost use Rattle.std.specs.Prelude.{◌≡◌};
+ghost use Rattle.std.specs.Prelude.{◌≡◌, IfOk};
+ghost use Rattle.smv_parse.specs.Tokens.{scanned};
 ghost use Rattle.smv_parse.specs.FirstForm.{behind, closes, first_from, free, is_first, opens};
 
 use crate::mark::Mark;
-use crate::token::{Lexeme, Token};
+use crate::token::{Lexeme, Token, scan};
+use std::alloc::{AllocError, Global};
 
 /// What may come next: anything, or a part of `next` around a name.
 #[derive(Clone, Copy, Debug)]
@@ -73,4 +75,16 @@ pub fn is_first(tokens: &[Token]) -> bool
         }
     }
     true
+}
+
+/// Whether the tokens of a text are those of a model of the first form, as far as the text has tokens.
+///
+/// # Errors
+///
+/// `AllocError` where memory is refused.
+pub fn is_first_form(alloc: Global, bytes: &[u8]) -> Result<bool, AllocError>
+    ensures { IfOk result (λ first. first ≡ is_first (scanned bytes.now).tokens) }
+{
+    let text = scan(alloc, bytes)?;
+    Ok(is_first(text.tokens.as_slice()))
 }

@@ -1,9 +1,21 @@
 ghost use Rattle.std.specs.Prelude.{◌≡◌, ◌≤◌, IfSome};
-ghost use Rattle.smv_parse.specs.Forms.{capped, following_level, form, function_of, infix_of, level_of, opening_level, own_level, tail_by, to_right};
+ghost use Rattle.smv_parse.specs.Forms.{begins_dots, begins_range, capped, closed_below, closer, following_level, form, function_of, infix_of, integer, level_of, loosest, opening_level, own_level, tail_by, to_right};
 
 use crate::mark::Mark;
 use crate::token::{Lexeme, Token};
 use smv_tree::{Op1, Op2, Place};
+
+/// How many nestings may be open, and how deep an expression may be.
+pub const DEEPEST: u32 = 1000;
+
+/// The loosest level of expressions.
+pub const LOOSEST: u32 = 15;
+
+/// The loosest level of the expressions that are atoms of formulas.
+pub const ATOMIC: u32 = 10;
+
+/// The loosest level of formulas.
+pub const OUTERMOST: u32 = 6;
 
 /// A width or the place of a bit; above 2 to the 32nd less one it stands as that.
 pub fn capped(value: u64) -> u32
@@ -13,6 +25,29 @@ pub fn capped(value: u64) -> u32
         value as u32
     } else {
         4294967295
+    }
+}
+
+/// A number with a `-` before it or not. What is above 2 to the 63rd less one stands as that.
+pub fn integer(below: bool, value: u64) -> i64
+    ensures { result ≡ integer below value }
+{
+    let magnitude = if value < 9223372036854775807 {
+        value as i64
+    } else {
+        9223372036854775807
+    };
+    if below { -magnitude } else { magnitude }
+}
+
+/// The mark that ends the operands of a set, or of `count`.
+pub fn closer(counts: bool) -> Mark
+    ensures { result ≡ closer counts }
+{
+    if counts {
+        Mark::CloseRound
+    } else {
+        Mark::CloseCurly
     }
 }
 
@@ -34,7 +69,7 @@ pub fn function_of(mark: Mark) -> Option<Op1>
 pub fn infix_of(mark: Mark) -> Option<(u32, Op2)>
     ensures value { result ≡ infix_of mark }
     ensures some { IfSome result (λ o. 1 ≤ o.0) }
-    ensures small { IfSome result (λ o. o.0 ≤ 15) }
+    ensures small { IfSome result (λ o. o.0 ≤ loosest) }
 {
     match mark {
         Mark::Concat => Some((3, Op2::Concat)),
@@ -62,14 +97,39 @@ pub fn infix_of(mark: Mark) -> Option<(u32, Op2)>
     }
 }
 
-/// The level of what a mark begins, or 0.
-pub fn level_of_form(place: Place, mark: Mark) -> u32
-    ensures { result ≡ own_level (form place mark) }
+/// Whether a `..` is at the front.
+pub fn dots_follow(tokens: &[Token]) -> bool
+    ensures { result ≡ begins_dots tokens.now }
+{
+    let [first, ..] = tokens else {
+        return false;
+    };
+    matches!(first.lexeme, Lexeme::Mark(Mark::Dots))
+}
+
+/// Whether a number and a `..` are at the front.
+pub fn range_follows(tokens: &[Token]) -> bool
+    ensures { result ≡ begins_range tokens.now }
+{
+    let [first, rest @ ..] = tokens else {
+        return false;
+    };
+    match first.lexeme {
+        Lexeme::Number(_) => dots_follow(rest),
+        _ => false,
+    }
+}
+
+/// The level of what a mark begins, or 0. The flag says whether a number and a `..` stand behind it.
+pub fn level_of_form(place: Place, ranges: bool, mark: Mark) -> u32
+    ensures { result ≡ own_level (form place ranges mark) }
 {
     match mark {
-        Mark::True | Mark::False | Mark::OpenRound | Mark::Next | Mark::Extend | Mark::Resize => 1,
+        Mark::True | Mark::False | Mark::SelfWord | Mark::OpenRound | Mark::OpenCurly => 1,
+        Mark::Next | Mark::Count | Mark::Case | Mark::Extend | Mark::Resize => 1,
+        Mark::UwConst | Mark::SwConst => 1,
         Mark::Bang => 2,
-        Mark::Minus => 4,
+        Mark::Minus => { if ranges { 1 } else { 4 } }
         _ => match function_of(mark) {
             Some(_) => 1,
             None => 0,
@@ -81,14 +141,14 @@ pub fn level_of_form(place: Place, mark: Mark) -> u32
 pub fn opening_level(tokens: &[Token]) -> u32
     ensures { result ≡ opening_level tokens.now }
 {
-    let [first, ..] = tokens else {
+    let [first, rest @ ..] = tokens else {
         return 0;
     };
     match first.lexeme {
         Lexeme::Name(_) => 1,
         Lexeme::Number(_) => 1,
         Lexeme::Word(_) => 1,
-        Lexeme::Mark(mark) => level_of_form(first.place, mark),
+        Lexeme::Mark(mark) => level_of_form(first.place, range_follows(rest), mark),
     }
 }
 
@@ -127,4 +187,15 @@ pub fn to_right(level: u32) -> bool
     ensures { result ≡ to_right level }
 {
     level == 13 || level == 15
+}
+
+/// The level from which on operators may follow an expression of a level.
+pub fn closed_below(level: u32) -> u32
+    ensures { result ≡ closed_below level }
+{
+    if level == 13 || level == 15 {
+        level + 1
+    } else {
+        level
+    }
 }

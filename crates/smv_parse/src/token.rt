@@ -1,8 +1,8 @@
-ghost use Rattle.std.specs.Prelude.{◌≡◌, ◌+◌, ◌<◌, ◌≤◌, ◌^◌, ◌++◌, false, IfErr, IfOk, IfSome, None, OnOk, Some, fold, length, true};
+ghost use Rattle.std.specs.Prelude.{◌≡◌, ◌+◌, ◌<◌, ◌≤◌, ◌^◌, ◌++◌, false, IfErr, IfOk, IfSome, None, OnOk, Some, fold, length, take, true};
 ghost use Rattle.std.specs.List.{prefix_len};
 ghost use Rattle.smv_parse.specs.Numbers.{at_most, is_decimal, radix_of, value_after, width_of};
 ghost use Rattle.smv_parse.specs.Scans.{scan_of};
-ghost use Rattle.smv_parse.specs.Tokens.{Fits, after, begins_name, continues_name, digit_piece, digits_at, goes_on, is_blank, is_in_line, is_named, number_at, piece_at, run_kind, scanned, start, token_of, word_at, word_of_width};
+ghost use Rattle.smv_parse.specs.Tokens.{Fits, after, begins_name, cut_name, continues_name, digit_piece, digits_at, goes_on, is_blank, is_in_line, is_named, number_at, piece_at, run_kind, scanned, start, token_of, word_at, word_of_width};
 
 use crate::left_out::{LeftOut, left_out};
 use crate::mark::{Mark, symbol_at, word_of};
@@ -317,7 +317,38 @@ fn push_token(
     Ok(())
 }
 
-/// The tokens of a text up to its end or to what is no token.
+/// The first bytes of a name that is too long.
+fn cut(name: &[u8]) -> &[u8]
+    requires { 1 ≤ length name.now }
+    ensures front { result.now ≡ take 255 name.now }
+    ensures some { 1 ≤ length result.now }
+    ensures short { length result.now ≤ 255 }
+{
+    if name.len() <= 255 {
+        return name;
+    }
+    &name[..255]
+}
+
+/// Adds a name that is too long, by its first bytes.
+fn push_cut_name(
+    alloc: Global,
+    tokens: &mut Vec<Token>,
+    place: Place,
+    flaw: Flaw,
+    rest: &[u8],
+) -> Result<(), AllocError>
+    requires { 1 ≤ length rest.now }
+    ensures { OnOk result (tokens.new.items ≡ tokens.old.items ++ cut_name place rest.now flaw) }
+{
+    let Flaw::LongName = flaw else {
+        return Ok(());
+    };
+    push_token(alloc, tokens, place, Piece::Name, cut(rest))
+}
+
+/// The tokens of a text up to its end or to what is no token. A name that is too long is the last of
+/// them.
 ///
 /// # Errors
 ///
@@ -339,6 +370,7 @@ pub fn scan(alloc: Global, bytes: &[u8]) -> Result<ScannedText, AllocError>
                 rest = next;
             }
             Err(flaw) => {
+                push_cut_name(alloc, &mut tokens, place, flaw, rest)?;
                 let stop = Some((place, flaw));
                 return Ok(ScannedText {
                     tokens,

@@ -3,7 +3,7 @@ use Rattle.std.specs.Prelude.{None}
 use Rattle.shell.specs.declared.event.Event.TheVariants.{Usage}
 use Rattle.shell.specs.AskedViews.{asked_of}
 use Rattle.shell.specs.Worlds.{disk_of, input_of, fresh}
-use Rattle.shell.specs.Sessions.{misused, no_file}
+use Rattle.shell.specs.Sessions.{misused}
 use Rattle.shell.proofs.RunsLemmas.{as_asked}
 use Rattle.shell.proofs.run.run_shell.Goals as goal
 

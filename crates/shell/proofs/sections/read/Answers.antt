@@ -1,7 +1,6 @@
-use Rattle.std.proofs.Common.{◌≡◌, ◌+◌, ◌≤◌, length, arith}
-use Rattle.std.specs.Prelude.{Some}
+use Rattle.std.proofs.Common.{length, arith}
 use Rattle.std.specs.Option.{option_copied}
-use Rattle.shell.specs.SectionViews.{progress_of, sections_in}
+use Rattle.shell.specs.SectionViews.{progress_of}
 use Rattle.shell.specs.TraceTexts.{add_lines, begun, content}
 use Rattle.shell.proofs.ReadingLemmas.{LineMore, line_more}
 use Rattle.shell.proofs.sections.read.Goals as goal

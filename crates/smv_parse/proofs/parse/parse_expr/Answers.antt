@@ -1,19 +1,16 @@
-use Rattle.std.proofs.Common.{Result, subst}
-use Rattle.smv_tree.specs.Trees.{Tree, expr_tree}
-use Rattle.smv_parse.specs.declared.syntax_fault.SyntaxFault.{SyntaxFault}
-use Rattle.smv_parse.specs.Verdicts.{Answers}
-use Rattle.smv_parse.proofs.Judged.{explained_judged, refused_so, spelled_judged}
+use Rattle.smv_tree.specs.Trees.{expr_tree}
+use Rattle.smv_parse.proofs.Judging.{answers_cause, answers_found, answers_only, answers_refused}
+use Rattle.smv_parse.proofs.TextVerdicts.{expression_decides}
 use Rattle.smv_parse.proofs.parse.parse_expr.Goals as goal
 
+pub returns-clause-found : goal.returns-clause-found
+returns-clause-found c = answers_found expr_tree c.read_text.result expression_decides c.args.bytes.now c.read_text.ensures
+
 pub returns-clause-only : goal.returns-clause-only
-returns-clause-only c = λ x s.
-    let P : Result Tree SyntaxFault → Type 0 = λ r. Answers expr_tree c.read_text.result r in
-    subst P (spelled_judged c.args.bytes.now x s) c.read_text.ensures
+returns-clause-only c = answers_only expr_tree c.read_text.result expression_decides c.args.bytes.now c.read_text.ensures
 
 pub returns-clause-refused : goal.returns-clause-refused
-returns-clause-refused c = refused_so expr_tree c.args.bytes.now c.read_text.result c.read_text.ensures
+returns-clause-refused c = answers_refused expr_tree c.read_text.result expression_decides c.args.bytes.now c.read_text.ensures
 
 pub returns-clause-cause : goal.returns-clause-cause
-returns-clause-cause c = λ f h.
-    let P : Result Tree SyntaxFault → Type 0 = λ r. Answers expr_tree c.read_text.result r in
-    subst P (explained_judged c.args.bytes.now f h) c.read_text.ensures
+returns-clause-cause c = answers_cause expr_tree c.read_text.result expression_decides c.args.bytes.now c.read_text.ensures

@@ -1,0 +1,55 @@
+-- What a printer has written, as its steps see it.
+use Rattle.std.specs.Prelude.{◌≡◌, ◌≤◌, ℕ, Bool, true, false, List, [], ◌∷◌, Option, Result, OnOk, OnErr}
+use Rattle.std.specs.Io.KnownBytes.{append_known}
+use Rattle.outside.specs.declared.Failed.{Failed}
+use Rattle.outside.specs.Told.{AddsFront, HasRisen}
+use Rattle.smv_tree.specs.Models.{Claim, both}
+use Rattle.smv_tree.specs.Trees.{Tree, Trees, choice, two}
+use Rattle.smv_parse.specs.declared.lead.Lead.{Lead}
+use Rattle.smv_parse.specs.declared.lead.Lead.TheVariants as lead
+use Rattle.smv_parse.specs.declared.mark.Mark.TheVariants as marks
+use Rattle.smv_parse.specs.Forms.{left_level}
+use Rattle.smv_parse.specs.Formulas.{left_of, right_of}
+use Rattle.smv_parse.specs.Printing.{Ink, after_comma, bare, blank, claim_inks, claim_part, level, level_of_claim, listed, right_level, spelled, symbol, text_of}
+
+-- What became of something to print, by what the sink tells and by its count of faults: all of it was
+-- written, or after a fault, which was counted, a front of it was.
+pub record Writes {X : Type 0} (result : Result X Failed) (old new : Option (List ℕ)) (before after : ℕ) (inks : List Ink) : Type 0 where
+  pub ok : OnOk result (new ≡ append_known old (text_of inks))
+  pub front : AddsFront old new (text_of inks)
+  pub cause : OnErr result (HasRisen before after)
+  pub count : before ≤ after
+
+-- the operands of an operator in their places: none of what is no operator
+abbrev pub left_inks : Tree → Lead → List Ink
+left_inks (choice p c a b) l = spelled l (left_level 13) c
+left_inks (two p o a b) l = spelled l (left_level (level (two p o a b))) a
+left_inks x l = []
+
+abbrev pub then_inks : Tree → List Ink
+then_inks (choice p c a b) = bare a lead.Free
+then_inks x = []
+
+abbrev pub right_inks : Tree → List Ink
+right_inks (choice p c a b) = spelled lead.Free (right_level 13) b
+right_inks (two p o a b) = spelled lead.Free (right_level (level (two p o a b))) b
+right_inks x = []
+
+-- what stands before an expression of a list that is not the first
+abbrev pub separator : Bool → List Ink
+separator false = []
+separator true = symbol marks.Comma ∷ blank ∷ []
+
+-- the expressions of a list from one on, which is not the first where the flag says so
+abbrev pub listed_from : Bool → Trees → List Ink
+listed_from false xs = listed xs
+listed_from true xs = after_comma xs
+
+-- the operands of an operator between formulas
+abbrev pub claim_left_inks : Claim → List Ink
+claim_left_inks (both o a b) = claim_part (left_of (level_of_claim o)) a (claim_inks a)
+claim_left_inks c = []
+
+abbrev pub claim_right_inks : Claim → List Ink
+claim_right_inks (both o a b) = claim_part (right_of (level_of_claim o)) b (claim_inks b)
+claim_right_inks c = []
