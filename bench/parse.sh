@@ -3,8 +3,8 @@
 # no time makes it fail. Only an answer that is not the wanted one does.
 #
 # Each time is that of the whole program, with the launcher's look at the sources; the line of 0 bytes
-# is a run without a command. The models are not of the form that nusat runs so far, so that each
-# answer is the one that follows parsing.
+# is a run without a command. The models are not of the form that nusat runs so far, or there is no
+# trace to run on them, so that each answer is the one that follows parsing.
 set -eu
 top=$(cd "$(dirname "$0")/.." && pwd)
 dir=$(mktemp -d)
@@ -62,6 +62,7 @@ measure nothing ""
 echo "execute_text_trace states.trace" >input
 for count in 1000 2000 4000 8000 13000; do sections "$count"; done
 built="error 899: not built yet"
+plain="error 646: states.trace: no such file"
 deep="nested too deep"
 shape "brackets, open" "error 106: 1:1018: $deep" "MODULE main INIT " 1000000 "("
 shape "brackets, open, of a formula" "error 106: 1:1021: $deep" "MODULE main LTLSPEC " 1000000 "("
@@ -70,13 +71,13 @@ shape "brackets, one after the other" "$built" "MODULE main INIT {x" 500000 ",(x
 shape "formulas, each with brackets" "$built" "MODULE main" 200000 " LTLSPEC (X x)"
 shape "not signs" "error 106: 1:1018: $deep" "MODULE main INIT " 1000000 "!"
 shape "minus signs, a comment" "error 105: 1:1000018: unexpected end" "MODULE main INIT " 1000000 "-"
-shape "a comment" "$built" "MODULE main --" 4000000 "c"
+shape "a comment" "$plain" "MODULE main --" 4000000 "c"
 shape "a name" "error 111: 1:8: name longer than 255 bytes" "MODULE " 4000000 "n"
-shape "a sum" "error 106: 1:2019: $deep" "MODULE main INIT x" 100000 "+x"
-shape "a chain of arrows" "error 106: 1:3018: $deep" "MODULE main INIT x" 100000 "->x"
-shape "a chain of arrows of formulas" "error 106: 1:5024: $deep" "MODULE main LTLSPEC X x" 100000 "->X x"
+shape "a sum" "error 106: 1:2018: $deep" "MODULE main INIT x" 100000 "+x"
+shape "a chain of arrows" "error 106: 1:5023: $deep" "MODULE main INIT x" 100000 " -> x"
+shape "a chain of arrows of formulas" "error 106: 1:7021: $deep" "MODULE main LTLSPEC X x" 100000 " -> X x"
 shape "branches of a case" "$built" "MODULE main INIT case " 200000 "x : y; " "esac"
 shape "a path" "$built" "MODULE main INIT x" 1000000 ".x"
 shape "a number" "error 103: 1:18: number out of range" "MODULE main INIT " 4000000 "9"
 shape "digits of a word" "error 102: 1:18: bad word constant" "MODULE main INIT 0ub_" 4000000 "1"
-shape "blanks" "$built" "MODULE main" 4000000 " "
+shape "blanks" "$plain" "MODULE main" 4000000 " "
