@@ -52,19 +52,19 @@ fn session<L: Ledger>(
 }
 
 /// What a session on this input writes: its output, its refusals, and its status as a digit. The
-/// model of the toggle is in `m.smv`, a trace or a log in `t`, and the output takes so many bytes.
+/// model is in `m.smv`, a trace or a log in `t`, and the output takes so many bytes.
 fn said(
     alloc: Global,
     word: &str,
+    model: &[u8],
     file: &Text,
     input: &[u8],
     room: usize,
 ) -> Result<Text, AllocError> {
-    let toggle = TOGGLE.as_bytes();
     session::<Brand>(
         alloc,
         word.as_bytes(),
-        toggle,
+        model,
         file,
         input,
         room,
@@ -75,15 +75,13 @@ fn said(
 /// What is said of a model when a trace is to be executed on it.
 fn said_of_model(alloc: Global, model: &Text) -> Result<Text, AllocError> {
     let trace = text(alloc, TWO_STATES)?;
-    let input = b"execute_text_trace t";
-    session::<Brand>(
+    said(
         alloc,
-        b"m.smv",
+        "m.smv",
         model.as_slice(),
         &trace,
-        input,
+        b"execute_text_trace t",
         99,
-        Blank::new(1),
     )
 }
 
@@ -145,7 +143,14 @@ fn answers_lines(rt: HostRuntime) -> Result<(), AllocError> {
     for (word, end, input, room, want) in rows {
         let mut trace = text(alloc, TWO_STATES)?;
         trace.extend(end.as_bytes())?;
-        let said = said(alloc, word, &trace, input.as_bytes(), room)?;
+        let said = said(
+            alloc,
+            word,
+            TOGGLE.as_bytes(),
+            &trace,
+            input.as_bytes(),
+            room,
+        )?;
         assert!(rt; said.as_slice() == want.as_bytes(), "{want}");
     }
     Ok(())
@@ -158,7 +163,7 @@ fn reads_lines_to_their_limit(rt: HostRuntime) -> Result<(), AllocError> {
     for _ in 0..65_537 {
         line.push(b'a')?;
     }
-    let said = said(alloc, "", &Text::new(alloc), line.as_slice(), 99)?;
+    let said = said(alloc, "", b"", &Text::new(alloc), line.as_slice(), 99)?;
     assert!(rt; said.as_slice() == "error 802: line longer than 65536 bytes\n3".as_bytes());
     Ok(())
 }
@@ -203,7 +208,7 @@ fn checks_logs(rt: HostRuntime) -> Result<(), AllocError> {
     for (lines, want) in rows {
         let mut log = text(alloc, "log 1\n")?;
         log.extend(lines.as_bytes())?;
-        let said = said(alloc, "", &log, b"check_log t", 99)?;
+        let said = said(alloc, "", b"", &log, b"check_log t", 99)?;
         assert!(rt; said.as_slice() == want.as_bytes(), "{want}");
     }
     Ok(())
