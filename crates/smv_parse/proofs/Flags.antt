@@ -1,5 +1,5 @@
 -- The flags of tokens are those of what is left of them.
-use Rattle.std.proofs.Common.{◌≡◌, ◌++◌, ℕ, Bool, true, false, cond, List, [], ◌∷◌, length, Ok, Err, sym, ◌∙◌, ap, subst, append_assoc, inl, inr}
+use Rattle.std.proofs.Common.{◌≡◌, ℕ, Bool, true, false, cond, List, [], ◌∷◌, length, Ok, Err, sym, ap, subst, inl, inr}
 use Rattle.smv_tree.specs.declared.place.Place.{Place}
 use Rattle.smv_parse.specs.declared.mark.Mark.{Mark}
 use Rattle.smv_parse.specs.declared.token.Token.{Token}
@@ -10,13 +10,11 @@ use Rattle.smv_parse.specs.ProgramSteps.{mark_at, named_at, named_in}
 use Rattle.smv_parse.specs.Reading.{wrong, is_mark, option_at, with_it, without_it}
 use Rattle.smv_parse.specs.RuleReading.{Got, read}
 use Rattle.smv_parse.specs.Rules.{Sort, Gift, Rule}
+use Rattle.smv_parse.proofs.FormulaRests.{flagged_rest}
 use Rattle.smv_parse.proofs.Pieces.{TellsOf}
 use Rattle.smv_parse.proofs.Rests.{Rest, rest_more, rest_same}
 use Rattle.smv_parse.proofs.RuleFronts.{follows_rest}
 use Rattle.smv_parse.proofs.RuleSound.{RuleTells, Told, told}
-
-flagged_on : (flags : List Bool) (ts us : List Token) → Rest us ts → Flagged flags ts → Flagged flags us
-flagged_on flags ts us r h = record { tells = λ vs ws k. h.tells (r.used ++ vs) ws (r.split ∙ ap (λ xs. r.used ++ xs) k ∙ sym (append_assoc r.used vs ws)) }
 
 one_behind : (t : Token) (ts : List Token) → Rest ts (t ∷ ts)
 one_behind t ts = rest_more ts ts t (rest_same ts)
@@ -33,7 +31,7 @@ mark_rest m (t ∷ ts) x e = by_test (is_mark m t.lexeme) e where
   by_test false e = absurd (cc)
 
 pub mark_flags : (flags : List Bool) (m : Mark) (ts : List Token) (x : Place × List Token) → mark_at m ts ≡ Ok x → Flagged flags ts → Flagged flags x.1
-mark_flags flags m ts x e h = flagged_on flags ts x.1 (mark_rest m ts x e) h
+mark_flags flags m ts x e h = flagged_rest flags ts x.1 (mark_rest m ts x e) h
 
 -- behind a name
 named_rest : (ts : List Token) (x : (List ℕ × Place) × List Token) → named_at ts ≡ Ok x → Rest x.1 ts
@@ -46,7 +44,7 @@ named_rest (t ∷ ts) x e = by_lexeme t.lexeme e where
   by_lexeme (lexeme.Word w) e = absurd (cc)
 
 pub named_flags : (flags : List Bool) (ts : List Token) (x : (List ℕ × Place) × List Token) → named_at ts ≡ Ok x → Flagged flags ts → Flagged flags x.1
-named_flags flags ts x e h = flagged_on flags ts x.1 (named_rest ts x e) h
+named_flags flags ts x e h = flagged_rest flags ts x.1 (named_rest ts x e) h
 
 -- behind a mark that may be left out
 option_rest : (m : Mark) (ts : List Token) → Rest (option_at m ts).1 ts
@@ -60,7 +58,7 @@ pub option_flags : (flags : List Bool) (m : Mark) (ts : List Token) (b : Bool) (
 option_flags flags m ts b us e h =
     let P : List Token → Type 0 = λ vs. Flagged flags vs in
     let same : us ≡ (option_at m ts).1 = ap (λ (o : Bool × List Token). o.1) e in
-    subst P (sym same) (flagged_on flags ts (option_at m ts).1 (option_rest m ts) h)
+    subst P (sym same) (flagged_rest flags ts (option_at m ts).1 (option_rest m ts) h)
 
 -- behind what a rule says
 rule_rest : {s : Sort} (r : Rule s) (ts : List Token) (x : Gift s × List Token) → read r ts ≡ Ok x → Rest x.1 ts
@@ -71,4 +69,4 @@ rule_rest {s} r ts x e = known (told r ts) where
   known (inr h) = let P : Got (Gift s) → Type 0 = λ o. RuleTells r ts o in follows_rest (subst P e h)
 
 pub rule_flags : {s : Sort} (flags : List Bool) (r : Rule s) (ts : List Token) (x : Gift s × List Token) → read r ts ≡ Ok x → Flagged flags ts → Flagged flags x.1
-rule_flags flags r ts x e h = flagged_on flags ts x.1 (rule_rest r ts x e) h
+rule_flags flags r ts x e h = flagged_rest flags ts x.1 (rule_rest r ts x e) h

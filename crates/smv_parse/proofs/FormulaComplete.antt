@@ -17,7 +17,8 @@ use Rattle.smv_parse.proofs.Firsts.{expect_same}
 use Rattle.smv_parse.proofs.Equations.{nothing_begins, nothing_follows}
 use Rattle.smv_parse.proofs.FormulaEquations.{joining_on, joins_on, level_on, nothing_joins, operand_first}
 use Rattle.smv_parse.proofs.FormulaSound.{closes_one, levels}
-use Rattle.smv_parse.proofs.FormulaWhole.{shorter, spelled_behind}
+use Rattle.smv_parse.proofs.FormulaWhole.{spelled_behind}
+use Rattle.smv_parse.proofs.Rests.{rest_length}
 
 -- reading ends where it is too deep, with so many tokens left or more
 pub record SinksOn (m : ℕ) (r : FormulaOut) : Type 0 where
@@ -253,10 +254,10 @@ complete_on room (an_operand t f ts rest x d e s) shut =
     passed_as (suc d) room rest (formula_reader room 1 (t ∷ ts)) (operated (formula_within room) room f ts >>= going_on room 1) (going_on room 1 (found (f x) (suc d) rest))
     (first_level room (t ∷ ts) ∙ ap (λ r. r >>= going_on room 1) (operand_known (formula_within room) room t ts (before_operand f) e))
     (passed_then (suc d) room rest (operated (formula_within room) room f ts) (found (f x) (suc d) rest) (going_on room 1)
-    (opened_passed room d f 1 ts rest rest x (f x) (under f) (depth_some s) (shorter ts rest (spelled_behind s)) (λ lt. passed_ok d (room - 1) rest (formula_reader (room - 1) 1 ts) (going_on (room - 1) 1 (found x d rest)) (Ok (found x d rest)) (one_done (room - 1) (found x d rest)) (complete_on (room - 1) s (closes_one rest))) (omega arith) refl))
+    (opened_passed room d f 1 ts rest rest x (f x) (under f) (depth_some s) (rest_length rest ts (spelled_behind s)) (λ lt. passed_ok d (room - 1) rest (formula_reader (room - 1) 1 ts) (going_on (room - 1) 1 (found x d rest)) (Ok (found x d rest)) (one_done (room - 1) (found x d rest)) (complete_on (room - 1) s (closes_one rest))) (omega arith) refl))
 complete_on room (in_brackets t p ts rest x d e s) shut =
     let ws : List Token = marked p marks.CloseRound ∷ rest in
-    let k = shorter ts ws (spelled_behind s) in
+    let k = rest_length ws ts (spelled_behind s) in
     passed_as (suc d) room rest (formula_reader room 1 (t ∷ ts)) (enclosed (formula_within room) room ts >>= going_on room 1) (going_on room 1 (found x (suc d) rest))
     (first_level room (t ∷ ts) ∙ ap (λ r. r >>= going_on room 1) (operand_known (formula_within room) room t ts bracket e))
     (passed_then (suc d) room rest (enclosed (formula_within room) room ts) (found x (suc d) rest) (going_on room 1)
@@ -271,7 +272,7 @@ complete_on room (tighter l ts rest x d s) shut =
     (passed_ok d room rest (formula_reader room l ts) (going_on room l (found x d rest)) (Ok (found x d rest)) (nothing_joins room l (found x d rest) (λ e. let z = shut (omega (arith, e, m.0)) in omega (arith, z, e, one))) (complete_on room s (λ lt. shut (omega (arith, lt, k.1, m.0))))))
 complete_on room (joins t l o ts us rest a b d e eo g h) shut =
     let two = two_some t o eo g in
-    let far = shorter us rest (spelled_behind h) in
+    let far = rest_length rest us (spelled_behind h) in
     let near = right_shut l rest (omega (arith, two)) shut in
     joins_passed room l d e t o a b ts us rest eo two far shut
     (complete_on room g (left_shut l t us (omega (arith, two)) (ap level_of eo)))

@@ -12,9 +12,10 @@ use Rattle.smv_parse.specs.Fronts.{Front}
 use Rattle.smv_parse.specs.Grammar.{marked}
 use Rattle.smv_parse.specs.Formulas.{DeepFormula, FrontFormula, SpellsFormula, Start, an_atom, an_operand, atomic, before_operand, bracket, deep_atom, deep_bracket, deep_looser, deep_opening, deep_operand, deep_right, deep_whole, here, in_atom, in_brackets, into_bracket, into_operand, joining, joins, left_of, looser, of_atom, outermost, past_bracket, past_operator, right_of, start_of, tighter}
 use Rattle.smv_parse.proofs.Complete.{begins}
-use Rattle.smv_parse.proofs.Judge.{deep_leads, nonempty}
+use Rattle.smv_parse.proofs.DeepFronts.{deep_leads, nonempty}
 use Rattle.smv_parse.proofs.Whole.{fronts, prefix}
-use Rattle.smv_parse.proofs.FormulaWhole.{Behind, loosened_on, shorter, spelled_behind, spelled_front}
+use Rattle.smv_parse.proofs.FormulaWhole.{loosened_on, spelled_behind, spelled_front}
+use Rattle.smv_parse.proofs.Rests.{Rest, rest_length}
 
 drop_same : {A : Type 0} (i : ℕ) (ts : List A) → length ts ≤ length (drop i ts) → drop i ts ≡ ts
 drop_same zero ts h = refl
@@ -44,7 +45,7 @@ empty_list [] h = refl
 empty_list (u ∷ us) h = absurd (omega (arith, h))
 
 -- a rest is known by its length
-pub rest_by_length : (i : ℕ) (ts rest : List Token) → Behind ts rest → length (drop i ts) ≡ length rest → drop i ts ≡ rest
+pub rest_by_length : (i : ℕ) (ts rest : List Token) → Rest rest ts → length (drop i ts) ≡ length rest → drop i ts ≡ rest
 rest_by_length i ts rest b h =
     let P : List Token → Type 0 = λ vs. length (drop i vs) ≡ length rest in
     let k : length (drop i (b.used ++ rest)) ≡ length rest = subst P b.split h in
@@ -134,7 +135,7 @@ spelled_less (an_atom us rest x d e s c) = atom_some us rest (filled us (begins 
 spelled_less (an_operand t f ts rest x d e s) = let k = spelled_less s in omega (arith, k)
 spelled_less (in_brackets t p ts rest x d e s) = let k = spelled_less s in omega (arith, k)
 spelled_less (tighter l ts rest x d s) = spelled_less s
-spelled_less (joins t l o ts us rest a b d e eo g s) = let k = spelled_less s in let m = shorter ts (t ∷ us) (spelled_behind g) in omega (arith, k, m)
+spelled_less (joins t l o ts us rest a b d e eo g s) = let k = spelled_less s in let m = rest_length (t ∷ us) ts (spelled_behind g) in omega (arith, k, m)
 
 pub deep_less : {n l : ℕ} {ts rest : List Token} → DeepFormula n l ts rest → length rest < length ts
 deep_less (deep_atom n us rest e h) = let k = nonempty h.deep in let s = ap length h.split in let m = length-append h.ahead h.end in atom_some us rest (omega (arith, k, s, m))
@@ -142,5 +143,5 @@ deep_less (deep_opening n t ts other over) = omega arith
 deep_less (deep_operand n t f ts rest e h) = let k = deep_less h in omega (arith, k)
 deep_less (deep_bracket n t ts rest e h) = let k = deep_less h in omega (arith, k)
 deep_less (deep_looser n l ts rest h) = deep_less h
-deep_less (deep_right n t l o ts us rest a d eo g h) = let k = deep_less h in let m = shorter ts (t ∷ us) (spelled_behind g) in omega (arith, k, m)
+deep_less (deep_right n t l o ts us rest a d eo g h) = let k = deep_less h in let m = rest_length (t ∷ us) ts (spelled_behind g) in omega (arith, k, m)
 deep_less (deep_whole n l ts rest x d s big shut) = spelled_less s

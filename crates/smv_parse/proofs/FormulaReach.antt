@@ -23,7 +23,8 @@ use Rattle.smv_parse.proofs.Tells.{Expected, expected}
 use Rattle.smv_parse.proofs.FormulaEquations.{joins_on, level_on, nothing_joins, operators_step, operators_stop}
 use Rattle.smv_parse.proofs.FormulaSound.{Says, TellsFormula, base, formula_tells}
 use Rattle.smv_parse.proofs.FormulaComplete.{PassedOn, SinksOn, atom_known, complete_on, first_level, found, inner_is, joined_known, left_shut, operand_known, sinks_as, sinks_less, sinks_then, sinks_up, two_some, up_to_on}
-use Rattle.smv_parse.proofs.FormulaWhole.{Behind, behind_one, both_before, front_behind, one_before, none_before, shorter, spelled_behind}
+use Rattle.smv_parse.proofs.FormulaWhole.{behind_one, front_behind, spelled_behind}
+use Rattle.smv_parse.proofs.Rests.{Rest, rest_same, rest_more, rest_trans, rest_length}
 
 -- reading leaves at most so many tokens, unless it is too deep
 unfoldable pub ReachedOn : ℕ → FormulaOut → Type 0
@@ -60,8 +61,8 @@ sunk_reached k m r s = let P : FormulaOut → Type 0 = λ r. ReachedOn k r in su
 
 tells_reached : (n l : ℕ) (ts : List Token) (r : FormulaOut) → TellsFormula n l ts r → ReachedOn (length ts) r
 unfolding ReachedOn Says
-tells_reached n l ts (Ok y) h = shorter ts y.rest (spelled_behind h.spelled)
-tells_reached n l ts (Err (wrong k)) h = let s = shorter ts h.rest (front_behind h.holds) in let c = h.count in omega (arith, s, c)
+tells_reached n l ts (Ok y) h = rest_length y.rest ts (spelled_behind h.spelled)
+tells_reached n l ts (Err (wrong k)) h = let s = rest_length h.rest ts (front_behind h.holds) in let c = h.count in omega (arith, s, c)
 tells_reached n l ts (Err (deep k)) h = tt
 
 reader_reached : (room : ℕ) → room ≤ suc deepest → (l : ℕ) (ts : List Token) → ReachedOn (length ts) (formula_reader room l ts)
@@ -205,13 +206,13 @@ reaches_on room small (past_operator t l o ts us rest a d eo g h) =
     (right_goes (length rest) room l us (reaches_on room small h) (reaches_on (room - 1) (omega (arith, small)) h))
 
 -- where a formula gets too deep there is a rest of its tokens
-pub deep_behind : {n l : ℕ} {ts rest : List Token} → DeepFormula n l ts rest → Behind ts rest
+pub deep_behind : {n l : ℕ} {ts rest : List Token} → DeepFormula n l ts rest → Rest rest ts
 deep_behind (deep_atom n us rest e h) = record { used = us; split = refl }
-deep_behind (deep_opening n t ts e over) = one_before t ts ts (none_before ts)
-deep_behind (deep_operand n t f ts rest e h) = one_before t ts rest (deep_behind h)
-deep_behind (deep_bracket n t ts rest e h) = one_before t ts rest (deep_behind h)
+deep_behind (deep_opening n t ts e over) = rest_more ts ts t (rest_same ts)
+deep_behind (deep_operand n t f ts rest e h) = rest_more rest ts t (deep_behind h)
+deep_behind (deep_bracket n t ts rest e h) = rest_more rest ts t (deep_behind h)
 deep_behind (deep_looser n l ts rest h) = deep_behind h
-deep_behind (deep_right n t l o ts us rest a d eo g h) = both_before ts us rest (behind_one t ts us (spelled_behind g)) (deep_behind h)
+deep_behind (deep_right n t l o ts us rest a d eo g h) = rest_trans rest us ts (deep_behind h) (behind_one t ts us (spelled_behind g))
 deep_behind (deep_whole n l ts rest x d s big shut) = spelled_behind s
 
 -- an atom that gets too deep
@@ -280,16 +281,16 @@ sinks_on room small (deep_atom n us rest e h) =
     (sinks_then (length rest) (atom_at room (us ++ rest)) (going_on room 1) (atom_sinks (length rest) (reader room atomic (us ++ rest)) (sinks_within n room atomic us rest small h)))
 sinks_on room small (deep_opening n t ts other over) = opening_sinks room t ts (omega (arith, small, over)) other
 sinks_on room small (deep_operand n t f ts rest e h) =
-    let far = shorter ts rest (deep_behind h) in
+    let far = rest_length rest ts (deep_behind h) in
     operand_sinks (length rest) room t ts (before_operand f) e (opened_sinks (length rest) room 1 ts (under f) far (λ lt. sinks_on (room - 1) (omega (arith, small)) h))
 sinks_on room small (deep_bracket n t ts rest e h) =
-    let far = shorter ts rest (deep_behind h) in
+    let far = rest_length rest ts (deep_behind h) in
     operand_sinks (length rest) room t ts bracket e (opened_sinks (length rest) room outermost ts closed far (λ lt. sinks_on (room - 1) (omega (arith, small)) h))
 sinks_on room small (deep_looser n l ts rest h) =
     sinks_as (length rest) (formula_reader room (suc l) ts) (formula_reader room l ts >>= going_on room (suc l)) (level_on room l ts) (sinks_then (length rest) (formula_reader room l ts) (going_on room (suc l)) (sinks_on room small h))
 sinks_on room small (deep_right n t l o ts us rest a d eo g h) =
     let two = two_some t o eo g in
-    let far = shorter us rest (deep_behind h) in
+    let far = rest_length rest us (deep_behind h) in
     joined_sinks (length rest) room l d t o a ts us far eo two
     (complete_on room g (left_shut l t us (omega (arith, two)) (ap level_of eo)))
     (right_sinks (length rest) n room l us far small (λ r k. sinks_on r k h))

@@ -15,13 +15,14 @@ use Rattle.smv_parse.proofs.Equations.{lt_ltb}
 use Rattle.smv_parse.proofs.FormulaComplete.{inner_is, operand_known}
 use Rattle.smv_parse.proofs.FormulaEquations.{Inner, operand_first, stops_on}
 use Rattle.smv_parse.proofs.FormulaSound.{ReadsFormula, Says, TellsFormula, base, formula_tells, some_room}
-use Rattle.smv_parse.proofs.FormulaWhole.{Behind, spelled_behind}
+use Rattle.smv_parse.proofs.FormulaWhole.{spelled_behind}
+use Rattle.smv_parse.proofs.Rests.{Rest}
 
 -- the flags of a rest
-pub flagged_rest : (flags : List Bool) (ts rest : List Token) → Behind ts rest → Flagged flags ts → Flagged flags rest
+pub flagged_rest : (flags : List Bool) (ts rest : List Token) → Rest rest ts → Flagged flags ts → Flagged flags rest
 flagged_rest flags ts rest b h = record { tells = λ vs ws k. h.tells (b.used ++ vs) ws (b.split ∙ ap (λ xs. b.used ++ xs) k ∙ sym (append_assoc b.used vs ws)) }
 
-pub behind_first : (ts : List Token) → 1 ≤ length ts → Behind ts (take (length ts - 1) (drop 1 ts))
+pub behind_first : (ts : List Token) → 1 ≤ length ts → Rest (take (length ts - 1) (drop 1 ts)) ts
 behind_first [] h = absurd (omega (arith, h))
 behind_first (t ∷ ts) h = record { used = t ∷ []; split = ap (λ us. t ∷ us) (sym (take_all (length (t ∷ ts) - 1) ts (omega arith))) }
 
@@ -39,7 +40,7 @@ was_read : (n l : ℕ) (ts : List Token) (y : FoundFormula) → TellsFormula n l
 unfolding Says
 was_read n l ts y h = h
 
-pub formula_behind : (room l : ℕ) (ts : List Token) (y : FoundFormula) → room ≤ suc deepest → formula_reader room l ts ≡ Ok y → Behind ts y.rest
+pub formula_behind : (room l : ℕ) (ts : List Token) (y : FoundFormula) → room ≤ suc deepest → formula_reader room l ts ≡ Ok y → Rest y.rest ts
 formula_behind room l ts y small e =
     let n = suc deepest - room in
     let P : FormulaOut → Type 0 = λ r. TellsFormula n (base l) ts r in

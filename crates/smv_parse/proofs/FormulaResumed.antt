@@ -21,7 +21,7 @@ use Rattle.smv_parse.specs.Pending.{Leads}
 use Rattle.smv_parse.specs.Reading.{Stop, wrong, deep, ◌>>=◌}
 use Rattle.smv_parse.proofs.FormulaEquations.{joining_on, joins_on, level_on, nothing_joins, operand_first, same_bind}
 use Rattle.smv_parse.proofs.FormulaRests.{flagged_rest, formula_behind, right_nested, right_same}
-use Rattle.smv_parse.proofs.FormulaWhole.{shorter}
+use Rattle.smv_parse.proofs.Rests.{rest_length}
 
 bind_end_on : (r : FormulaOut) → (r >>= (λ x. Ok x)) ≡ r
 bind_end_on (Err s) = refl
@@ -128,7 +128,7 @@ operand_read_on room l ts x e = reads_operand_on room l ts ∙ ap (λ (r : Formu
 pub operand_flagged : (flags : List Bool) (room : ℕ) (ts : List Token) (x : FoundFormula) → room ≤ suc deepest → operand_at (formula_within room) room ts ≡ Ok x → Flagged flags ts → (length x.rest ≤ length ts) × Flagged flags x.rest
 operand_flagged flags room ts x small e h =
     let b = formula_behind room 0 ts x small (operand_first room ts ∙ e) in
-    (shorter ts x.rest b, flagged_rest flags ts x.rest b h)
+    (rest_length x.rest ts b, flagged_rest flags ts x.rest b h)
 
 pub behind_kept : (flags : List Bool) (room : ℕ) (ts us : List Token) (t : Token) (x : FoundFormula) → ts ≡ t ∷ us → room ≤ suc deepest → operand_at (formula_within room) room us ≡ Ok x → Flagged flags ts → (length x.rest < length ts) × Flagged flags x.rest
 behind_kept flags room ts us t x e small h f =
@@ -139,7 +139,7 @@ behind_kept flags room ts us t x e small h f =
 pub nested_flagged : (flags : List Bool) (room l : ℕ) (ts : List Token) (x : FoundFormula) → room ≤ suc deepest → formula_reader room l ts ≡ Ok x → Flagged flags ts → (length x.rest ≤ length ts) × Flagged flags x.rest
 nested_flagged flags room l ts x small e h =
     let b = formula_behind room l ts x small e in
-    (shorter ts x.rest b, flagged_rest flags ts x.rest b h)
+    (rest_length x.rest ts b, flagged_rest flags ts x.rest b h)
 
 abbrev Reached : Type 0
 Reached = ℕ × FormulaPart × Bor (List Token)

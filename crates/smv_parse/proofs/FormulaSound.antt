@@ -27,17 +27,17 @@ Says S F D (Ok y) = S y
 Says S F D (Err (wrong k)) = Left F k
 Says S F D (Err (deep k)) = Left D k
 
-says_on : (S S2 : FoundFormula → Type 0) (F F2 D D2 : List Token → Type 0) → ((y : FoundFormula) → S y → S2 y) → ((us : List Token) → F us → F2 us) → ((us : List Token) → D us → D2 us) → (r : FormulaOut) → Says S F D r → Says S2 F2 D2 r
+says_on : (S S' : FoundFormula → Type 0) (F F' D D' : List Token → Type 0) → ((y : FoundFormula) → S y → S' y) → ((us : List Token) → F us → F' us) → ((us : List Token) → D us → D' us) → (r : FormulaOut) → Says S F D r → Says S' F' D' r
 unfolding Says
-says_on S S2 F F2 D D2 s f d (Ok y) h = s y h
-says_on S S2 F F2 D D2 s f d (Err (wrong k)) h = record { rest = h.rest; count = h.count; holds = f h.rest h.holds }
-says_on S S2 F F2 D D2 s f d (Err (deep k)) h = record { rest = h.rest; count = h.count; holds = d h.rest h.holds }
+says_on S S' F F' D D' s f d (Ok y) h = s y h
+says_on S S' F F' D D' s f d (Err (wrong k)) h = record { rest = h.rest; count = h.count; holds = f h.rest h.holds }
+says_on S S' F F' D D' s f d (Err (deep k)) h = record { rest = h.rest; count = h.count; holds = d h.rest h.holds }
 
-says_then : (S S2 : FoundFormula → Type 0) (F F2 D D2 : List Token → Type 0) (next : FoundFormula → FormulaOut) → ((us : List Token) → F us → F2 us) → ((us : List Token) → D us → D2 us) → ((y : FoundFormula) → S y → Says S2 F2 D2 (next y)) → (r : FormulaOut) → Says S F D r → Says S2 F2 D2 (r >>= next)
+says_then : (S S' : FoundFormula → Type 0) (F F' D D' : List Token → Type 0) (next : FoundFormula → FormulaOut) → ((us : List Token) → F us → F' us) → ((us : List Token) → D us → D' us) → ((y : FoundFormula) → S y → Says S' F' D' (next y)) → (r : FormulaOut) → Says S F D r → Says S' F' D' (r >>= next)
 unfolding Says
-says_then S S2 F F2 D D2 next f d s (Ok y) h = s y h
-says_then S S2 F F2 D D2 next f d s (Err (wrong k)) h = record { rest = h.rest; count = h.count; holds = f h.rest h.holds }
-says_then S S2 F F2 D D2 next f d s (Err (deep k)) h = record { rest = h.rest; count = h.count; holds = d h.rest h.holds }
+says_then S S' F F' D D' next f d s (Ok y) h = s y h
+says_then S S' F F' D D' next f d s (Err (wrong k)) h = record { rest = h.rest; count = h.count; holds = f h.rest h.holds }
+says_then S S' F F' D D' next f d s (Err (deep k)) h = record { rest = h.rest; count = h.count; holds = d h.rest h.holds }
 
 says_with : (S : FoundFormula → Type 0) (F D : List Token → Type 0) (Q : Type 0) (r : FormulaOut) → ((y : FoundFormula) → r ≡ Ok y → Q) → Says S F D r → Says (λ y. S y × Q) F D r
 unfolding Says

@@ -1,47 +1,31 @@
 -- What spells a formula is a front of one, and what stands behind it is a rest of its tokens.
-use Rattle.std.proofs.Common.{◌≡◌, ◌≤◌, ◌-◌, ◌++◌, ℕ, zero, suc, Bool, true, false, cond, List, [], ◌∷◌, length, length-append, refl, sym, ◌∙◌, ap, subst, append_assoc, arith}
+use Rattle.std.proofs.Common.{◌≡◌, ◌-◌, ℕ, zero, suc, Bool, true, false, cond, List, ◌∷◌, refl, subst, arith}
 use Rattle.smv_tree.specs.Models.{Claim}
 use Rattle.smv_parse.specs.declared.mark.Mark.TheVariants as marks
 use Rattle.smv_parse.specs.declared.token.Token.{Token}
 use Rattle.smv_parse.specs.Grammar.{marked}
 use Rattle.smv_parse.specs.Formulas.{FrontFormula, SpellsFormula, an_atom, an_operand, here, in_atom, in_brackets, into_bracket, into_operand, joins, left_of, looser, past_bracket, past_operator, rightward, tighter}
 use Rattle.smv_parse.proofs.Tells.{whole_front}
+use Rattle.smv_parse.proofs.Rests.{Rest, rest_same, rest_more, rest_trans}
 
--- the second list is a rest of the first
-pub record Behind (ts rest : List Token) : Type 0 where
-  pub used : List Token
-  pub split : ts ≡ used ++ rest
+pub behind_one : (t : Token) (ts rest : List Token) → Rest (t ∷ rest) ts → Rest rest ts
+behind_one t ts rest h = rest_trans rest (t ∷ rest) ts (rest_more rest rest t (rest_same rest)) h
 
-pub none_before : (ts : List Token) → Behind ts ts
-none_before ts = record { used = []; split = refl }
-
-pub one_before : (t : Token) (ts rest : List Token) → Behind ts rest → Behind (t ∷ ts) rest
-one_before t ts rest h = record { used = t ∷ h.used; split = ap (λ us. t ∷ us) h.split }
-
-pub both_before : (ts us rest : List Token) → Behind ts us → Behind us rest → Behind ts rest
-both_before ts us rest h k = record { used = h.used ++ k.used; split = h.split ∙ ap (λ vs. h.used ++ vs) k.split ∙ sym (append_assoc h.used k.used rest) }
-
-pub behind_one : (t : Token) (ts rest : List Token) → Behind ts (t ∷ rest) → Behind ts rest
-behind_one t ts rest h = both_before ts (t ∷ rest) rest h (one_before t rest rest (none_before rest))
-
-pub shorter : (ts rest : List Token) → Behind ts rest → length rest ≤ length ts
-shorter ts rest h = let e = length-append h.used rest in let s = ap length h.split in omega (arith, e, s)
-
-pub spelled_behind : {l : ℕ} {ts rest : List Token} {x : Claim} {d : ℕ} → SpellsFormula l ts rest x d → Behind ts rest
+pub spelled_behind : {l : ℕ} {ts rest : List Token} {x : Claim} {d : ℕ} → SpellsFormula l ts rest x d → Rest rest ts
 spelled_behind (an_atom us rest x d e s c) = record { used = us; split = refl }
-spelled_behind (an_operand t f ts rest x d e s) = one_before t ts rest (spelled_behind s)
-spelled_behind (in_brackets t p ts rest x d e s) = one_before t ts rest (behind_one (marked p marks.CloseRound) ts rest (spelled_behind s))
+spelled_behind (an_operand t f ts rest x d e s) = rest_more rest ts t (spelled_behind s)
+spelled_behind (in_brackets t p ts rest x d e s) = rest_more rest ts t (behind_one (marked p marks.CloseRound) ts rest (spelled_behind s))
 spelled_behind (tighter l ts rest x d s) = spelled_behind s
-spelled_behind (joins t l o ts us rest a b d e eo g h) = both_before ts us rest (behind_one t ts us (spelled_behind g)) (spelled_behind h)
+spelled_behind (joins t l o ts us rest a b d e eo g h) = rest_trans rest us ts (spelled_behind h) (behind_one t ts us (spelled_behind g))
 
-pub front_behind : {l : ℕ} {ts rest : List Token} → FrontFormula l ts rest → Behind ts rest
-front_behind (here l rest) = none_before rest
+pub front_behind : {l : ℕ} {ts rest : List Token} → FrontFormula l ts rest → Rest rest ts
+front_behind (here l rest) = rest_same rest
 front_behind (in_atom us rest e f) = record { used = us; split = refl }
-front_behind (into_operand t f ts rest e h) = one_before t ts rest (front_behind h)
-front_behind (into_bracket t ts rest e h) = one_before t ts rest (front_behind h)
-front_behind (past_bracket t p ts rest x d e s) = one_before t ts rest (behind_one (marked p marks.CloseRound) ts rest (spelled_behind s))
+front_behind (into_operand t f ts rest e h) = rest_more rest ts t (front_behind h)
+front_behind (into_bracket t ts rest e h) = rest_more rest ts t (front_behind h)
+front_behind (past_bracket t p ts rest x d e s) = rest_more rest ts t (behind_one (marked p marks.CloseRound) ts rest (spelled_behind s))
 front_behind (looser l ts rest h) = front_behind h
-front_behind (past_operator t l o ts us rest a d eo g h) = both_before ts us rest (behind_one t ts us (spelled_behind g)) (front_behind h)
+front_behind (past_operator t l o ts us rest a d eo g h) = rest_trans rest us ts (front_behind h) (behind_one t ts us (spelled_behind g))
 
 -- what spells a formula is a front of one
 pub spelled_front : {l : ℕ} {ts rest : List Token} {x : Claim} {d : ℕ} → SpellsFormula l ts rest x d → FrontFormula l ts rest

@@ -22,7 +22,7 @@ pub mod Sound
 pub mod Complete
 pub mod Reached
 pub mod Reach
-pub mod Judge
+pub mod DeepFronts
 pub mod FormulaEquations
 pub mod FormulaSound
 pub mod FormulaWhole

@@ -19,7 +19,7 @@ use Rattle.smv_parse.proofs.FormulaFronts.{deep_is_front, deep_less, front_front
 use Rattle.smv_parse.proofs.FormulaReach.{ReachedOn, reaches_on, sinks_on}
 use Rattle.smv_parse.proofs.FormulaSound.{Says, TellsFormula, formula_sound}
 use Rattle.smv_parse.proofs.FormulaWhole.{front_behind, spelled_front}
-use Rattle.smv_parse.proofs.Judge.{deep_leads, deep_some}
+use Rattle.smv_parse.proofs.DeepFronts.{deep_leads, deep_some}
 use Rattle.smv_parse.proofs.Reach.{reaches, sinks}
 use Rattle.smv_parse.proofs.Reached.{Reached}
 use Rattle.smv_parse.proofs.Rests.{Left, Rest, rest_drop, rest_length}

@@ -47,30 +47,30 @@ Tells n S L ts (Err (wrong k)) = Until (λ us rest. L us amid) ts k
 Tells n S L ts (Err (deep k)) = Until (λ us rest. DeepOf n L us rest) ts k
 
 -- the same of the tokens behind others
-pub onward : (n : ℕ) (S S2 : List Token → Found → Type 0) (L L2 : List Token → Point → Type 0) (pre : List Token → List Token) → ((us vs : List Token) → pre (us ++ vs) ≡ pre us ++ vs) → (ts : List Token) → ((us : List Token) (y : Found) → ts ≡ us ++ y.rest → S us y → S2 (pre us) y) → ((us rest : List Token) (q : Point) → ts ≡ us ++ rest → Meets q rest → L us q → L2 (pre us) q) → (out : Out) → Tells n S L ts out → Tells n S2 L2 (pre ts) out
+pub onward : (n : ℕ) (S S' : List Token → Found → Type 0) (L L' : List Token → Point → Type 0) (pre : List Token → List Token) → ((us vs : List Token) → pre (us ++ vs) ≡ pre us ++ vs) → (ts : List Token) → ((us : List Token) (y : Found) → ts ≡ us ++ y.rest → S us y → S' (pre us) y) → ((us rest : List Token) (q : Point) → ts ≡ us ++ rest → Meets q rest → L us q → L' (pre us) q) → (out : Out) → Tells n S L ts out → Tells n S' L' (pre ts) out
 unfolding Tells
-onward n S S2 L L2 pre over ts s l (Ok y) h = record { used = pre h.used; split = ap pre h.split ∙ over h.used y.rest; holds = s h.used y h.split h.holds }
-onward n S S2 L L2 pre over ts s l (Err (wrong k)) h = record { used = pre h.used; rest = h.rest; split = ap pre h.split ∙ over h.used h.rest; count = h.count; holds = l h.used h.rest amid h.split tt h.holds }
-onward n S S2 L L2 pre over ts s l (Err (deep k)) h =
+onward n S S' L L' pre over ts s l (Ok y) h = record { used = pre h.used; split = ap pre h.split ∙ over h.used y.rest; holds = s h.used y h.split h.holds }
+onward n S S' L L' pre over ts s l (Err (wrong k)) h = record { used = pre h.used; rest = h.rest; split = ap pre h.split ∙ over h.used h.rest; count = h.count; holds = l h.used h.rest amid h.split tt h.holds }
+onward n S S' L L' pre over ts s l (Err (deep k)) h =
     let f = h.holds in
     let behind = f.end ++ h.rest in
     record { used = pre h.used; rest = h.rest; split = ap pre h.split ∙ over h.used h.rest; count = h.count; holds = record { ahead = pre f.ahead; nestings = f.nestings; level = f.level; end = f.end; split = ap pre f.split ∙ over f.ahead f.end; leads = l f.ahead behind (before f.nestings f.level behind) (h.split ∙ ap (λ us. us ++ h.rest) f.split ∙ append_assoc f.ahead f.end h.rest) refl f.leads; deep = f.deep } }
 
 -- the same of what stops, seen from one nesting further out
-pub inner : (n : ℕ) (S S2 : List Token → Found → Type 0) (L L2 : List Token → Point → Type 0) → ((us : List Token) (q : Point) → L us q → L2 us (inward q)) → (ts : List Token) (s : Stop) → Tells (suc n) S L ts (Err s) → Tells n S2 L2 ts (Err s)
+pub inner : (n : ℕ) (S S' : List Token → Found → Type 0) (L L' : List Token → Point → Type 0) → ((us : List Token) (q : Point) → L us q → L' us (inward q)) → (ts : List Token) (s : Stop) → Tells (suc n) S L ts (Err s) → Tells n S' L' ts (Err s)
 unfolding Tells
-inner n S S2 L L2 l ts (wrong k) h = record { used = h.used; rest = h.rest; split = h.split; count = h.count; holds = l h.used amid h.holds }
-inner n S S2 L L2 l ts (deep k) h =
+inner n S S' L L' l ts (wrong k) h = record { used = h.used; rest = h.rest; split = h.split; count = h.count; holds = l h.used amid h.holds }
+inner n S S' L L' l ts (deep k) h =
     let f = h.holds in
     let e : suc n + f.nestings ≡ n + suc f.nestings = omega arith in
     let P : ℕ → Type 0 = λ m. TooDeep m f.level f.end h.rest in
     record { used = h.used; rest = h.rest; split = h.split; count = h.count; holds = record { ahead = f.ahead; nestings = suc f.nestings; level = f.level; end = f.end; split = f.split; leads = l f.ahead (before f.nestings f.level (f.end ++ h.rest)) f.leads; deep = subst P e f.deep } }
 
 -- what stops, whatever would have been read
-pub stopped : (n : ℕ) (S S2 : List Token → Found → Type 0) (L : List Token → Point → Type 0) (ts : List Token) (s : Stop) → Tells n S L ts (Err s) → Tells n S2 L ts (Err s)
+pub stopped : (n : ℕ) (S S' : List Token → Found → Type 0) (L : List Token → Point → Type 0) (ts : List Token) (s : Stop) → Tells n S L ts (Err s) → Tells n S' L ts (Err s)
 unfolding Tells
-stopped n S S2 L ts (wrong k) h = h
-stopped n S S2 L ts (deep k) h = h
+stopped n S S' L ts (wrong k) h = h
+stopped n S S' L ts (deep k) h = h
 
 -- the tokens behind a front cannot stand there
 pub stuck : (n : ℕ) (S : List Token → Found → Type 0) (L : List Token → Point → Type 0) (us rest : List Token) → L us amid → Tells n S L (us ++ rest) (Err (wrong (length rest)))

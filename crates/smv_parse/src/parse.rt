@@ -29,7 +29,7 @@ fn expression(alloc: Global, tokens: &[Token]) -> Result<Expr, Halt>
 }
 
 /// The fault that a left-out word is.
-#[tactic(auto, using(crate::proofs::Judge::text_within))]
+#[tactic(auto, using(crate::proofs::DeepFronts::text_within))]
 fn left_out_fault(alloc: Global, place: Place, word: LeftOut) -> ParseFault
     ensures { Unless result (result ≡ left_out_fault place word) }
 {
@@ -63,7 +63,7 @@ pub fn fault_of(alloc: Global, place: Place, flaw: Flaw) -> ParseFault
 }
 
 /// The place of a token by its number.
-#[tactic(auto, using(crate::proofs::Judge::place_of))]
+#[tactic(auto, using(crate::proofs::DeepFronts::place_of))]
 pub fn place_at(tokens: &[Token], index: usize) -> Place
     requires { index < length tokens.now }
     ensures { result ≡ place_at tokens.now index }
