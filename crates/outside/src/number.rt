@@ -72,11 +72,11 @@ pub fn put_number<S: Sink>(out: &mut S, number: u64) -> Result<(), Failed>
 /// # Errors
 ///
 /// `Failed` after a fault of the sink; a front of the text was written then.
-pub fn put_integer<S: Sink>(out: &mut S, number: i64) -> Result<(), Failed>
-    ensures { Writes (signed_decimal number) (S.told out.old) result (S.told out.new) }
+pub fn put_integer<S: Sink>(out: &mut S, number: &i64) -> Result<(), Failed>
+    ensures { Writes (signed_decimal number.now) (S.told out.old) result (S.told out.new) }
 {
     let mut buffer = Buffer::new();
-    put_all(out, buffer.format(number).as_bytes())
+    put_all(out, buffer.format(*number).as_bytes())
 }
 
 /// Writes a number between two texts.

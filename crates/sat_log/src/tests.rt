@@ -2,7 +2,7 @@ ghost use Rattle.std.specs.Prelude.{◌≡◌, IfOk};
 ghost use Rattle.sat_log.specs.declared.line.LineKind.TheVariants.{Conflict};
 
 use super::*;
-use outside::{MemSink, Text};
+use outside::{MemSink, Text, put_numbered};
 use std::alloc::{AllocError, Global};
 use std::test::Fail;
 
@@ -20,7 +20,7 @@ fn outcome(alloc: Global, text: &[u8]) -> Result<Text, AllocError> {
             }
         }
         Err(fault) => {
-            let _number = put::put_numbered(&mut out, b"", fault.number() as u64, b": ");
+            let _number = put_numbered(&mut out, b"", fault.number() as u64, b": ");
             let _text = fault.print_text(&mut out);
         }
     }

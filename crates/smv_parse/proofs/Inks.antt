@@ -4,15 +4,14 @@ use Rattle.std.proofs.Math.Seq.{drop-cons}
 use Rattle.std.proofs.lemmas.Bool.{lt-ltb}
 use Rattle.std.proofs.lemmas.Grind.{flat_map-append}
 use Rattle.std.proofs.lemmas.List.{append-nil, drop_all}
-use Rattle.std.proofs.lemmas.Result.{err_from_is_err_and, on_err_weaker, on_ok_weaker}
 use Rattle.std.proofs.lemmas.Slice.Eq.{bytes_eq-Decides}
 use Rattle.std.specs.Str.{bytes_eq}
-use Rattle.std.specs.Prelude.{codes, decimal, OnErr, OnOk, Option, Some, None, Result, Ok, Err}
+use Rattle.std.specs.Prelude.{codes, decimal, Result, Ok, Err}
 use Rattle.std.specs.Result.{IsErrAnd}
 use Rattle.std.specs.Fmt.{signed_decimal}
-use Rattle.std.specs.Io.KnownBytes.{append_known}
 use Rattle.outside.specs.declared.Failed.{Failed}
-use Rattle.outside.specs.Told.{AddsFront, HasRisen}
+use Rattle.outside.specs.Told.{Output, Writes}
+use Rattle.outside.proofs.WriteLemmas.{writes_as, writes_none, writes_returned, writes_stopped, writes_then}
 use Rattle.smv_tree.specs.declared.expr.Branch.{Branch}
 use Rattle.smv_tree.specs.declared.expr.Expr.{Expr}
 use Rattle.smv_tree.specs.declared.expr.Expr.TheFolds.{fold_out-Branch}
@@ -24,7 +23,7 @@ use Rattle.smv_parse.specs.declared.token.Lexeme.TheVariants as lexeme
 use Rattle.smv_parse.specs.Marks.{text}
 use Rattle.smv_parse.specs.Part.{arm_of}
 use Rattle.smv_parse.specs.Printing.{Ink, after_comma, around, bare, blank, branches, dotted, ink_text, integer, listed, path_head, symbol, text_of, token}
-use Rattle.smv_parse.specs.Written.{Writes, listed_from, separator}
+use Rattle.smv_parse.specs.Written.{Prints, listed_from, separator}
 
 -- a number as std writes it
 pub integer_text : (n : ℤ) → text_of (integer n) ≡ signed_decimal n
@@ -32,43 +31,13 @@ unfolding text
 integer_text (pos n) = append-nil (decimal n)
 integer_text (negsuc n) = ap (λ t. 45 ∷ t) (append-nil (decimal (suc n)))
 
--- written one after the other is written together
-told_then : (told told' told'' : Option (List ℕ)) (a b : List ℕ) → told' ≡ append_known told a → told'' ≡ append_known told' b → told'' ≡ append_known told (a ++ b)
-told_then None told' told'' a b e f = f ∙ ap (λ t. append_known t b) e
-told_then (Some old) told' told'' a b e f = f ∙ ap (λ t. append_known t b) e ∙ ap Some (append_assoc old a b)
-
--- a front of the second was written after the first
-front_then : (told told' told'' : Option (List ℕ)) (a b : List ℕ) → told' ≡ append_known told a → AddsFront told' told'' b → AddsFront told told'' (a ++ b)
-front_then told told' told'' a b e (front, rest, whole, new) =
-    (a ++ front, rest, ap (λ xs. a ++ xs) whole ∙ sym (append_assoc a front rest), told_then told told' told'' a front e new)
-
-front_more : (told told' : Option (List ℕ)) (a b : List ℕ) → AddsFront told told' a → AddsFront told told' (a ++ b)
-front_more told told' a b (front, rest, whole, new) =
-    (front, rest ++ b, ap (λ xs. xs ++ b) whole ∙ append_assoc front rest b, new)
-
-nothing_more : (told : Option (List ℕ)) → told ≡ append_known told []
-nothing_more None = refl
-nothing_more (Some old) = ap Some (sym (append-nil old))
-
-risen_later : (before mid after : ℕ) → before ≤ mid → HasRisen mid after → HasRisen before after
-risen_later before mid after h r = omega arith
-
--- nothing was written
-pub writes_none : {X : Type 0} (x : X) (old : Option (List ℕ)) (n : ℕ) → Writes (Ok x) old old n n []
-writes_none x old n = record { ok = nothing_more old; front = ([], [], refl, nothing_more old); cause = _; count = omega arith }
-
-front_either : {X : Type 0} (r : Result X Failed) (old new : Option (List ℕ)) (a : List ℕ) → OnOk r (new ≡ append_known old a) → OnErr r (AddsFront old new a) → AddsFront old new a
-front_either (Ok x) old new a e w = (a, [], sym (append-nil a), e)
-front_either (Err f) old new a e w = w
+-- nothing was printed
+pub prints_none : {X : Type 0} (x : X) (old : Output) → Prints [] old (Ok x) old
+prints_none x old = record { written = writes_none x old }
 
 -- the bytes of some inks
-pub writes_bytes : {X : Type 0} (r : Result X Failed) (old new : Option (List ℕ)) (before after : ℕ) (a : List ℕ) (is : List Ink) → a ≡ text_of is → OnOk r (new ≡ append_known old a) → OnErr r (AddsFront old new a) → OnErr r (HasRisen before after) → before ≤ after → Writes r old new before after is
-writes_bytes r old new before after a is e ok front cause count = record {
-  ok = on_ok_weaker r (λ k. k ∙ ap (append_known old) e) ok;
-  front = subst (AddsFront old new) e (front_either r old new a ok front);
-  cause = cause;
-  count = count;
-}
+pub prints_bytes : {X : Type 0} {r : Result X Failed} {old new : Output} {a : List ℕ} {is : List Ink} → a ≡ text_of is → Writes a old r new → Prints is old r new
+prints_bytes e w = record { written = writes_as e w }
 
 -- a path begins with its first name, also where that is `self`
 head_text : (n : List ℕ) → text_of (token (lexeme.Name n) ∷ []) ≡ text_of (token (path_head n) ∷ [])
@@ -78,59 +47,34 @@ head_text n = by_test (bytes_eq n (codes "self")) refl where
   by_test true e = ap (λ m. m ++ []) ((bytes_eq-Decides n (codes "self")).0 e)
   by_test false e = refl
 
-pub writes_head : {X : Type 0} (r : Result X Failed) (old new : Option (List ℕ)) (before after : ℕ) (n : List ℕ) → Writes r old new before after (token (lexeme.Name n) ∷ []) → Writes r old new before after (token (path_head n) ∷ [])
-writes_head r old new before after n w = record {
-  ok = on_ok_weaker r (λ k. k ∙ ap (append_known old) (head_text n)) w.ok;
-  front = subst (AddsFront old new) (head_text n) w.front;
-  cause = w.cause;
-  count = w.count;
-}
+pub prints_head : {X : Type 0} (r : Result X Failed) (old new : Output) (n : List ℕ) → Prints (token (lexeme.Name n) ∷ []) old r new → Prints (token (path_head n) ∷ []) old r new
+prints_head r old new n w = prints_bytes (head_text n) w.written
 
 -- a token alone
-pub writes_one : {X : Type 0} (r : Result X Failed) (old new : Option (List ℕ)) (before after : ℕ) (i : Ink) → OnOk r (new ≡ append_known old (ink_text i)) → OnErr r (AddsFront old new (ink_text i)) → OnErr r (HasRisen before after) → before ≤ after → Writes r old new before after (i ∷ [])
-writes_one r old new before after i = writes_bytes r old new before after (ink_text i) (i ∷ []) (sym (append-nil (ink_text i)))
+pub prints_one : {X : Type 0} (r : Result X Failed) (old new : Output) (i : Ink) → Writes (ink_text i) old r new → Prints (i ∷ []) old r new
+prints_one r old new i w = prints_bytes (sym (append-nil (ink_text i))) w
 
--- what was written, by itself
-pub written_known : {X : Type 0} (r : Result X Failed) (old new : Option (List ℕ)) (before after : ℕ) (a : List Ink) → Writes r old new before after a → OnOk r (new ≡ append_known old (text_of a))
-written_known r old new before after a w = w.ok
+-- the bytes that were written of what was printed
+pub inks_written : {X : Type 0} (r : Result X Failed) (old new : Output) (is : List Ink) → Prints is old r new → Writes (text_of is) old r new
+inks_written r old new is w = w.written
 
-any_err : {X P : Type 0} (r : Result X Failed) → P → OnErr r P
-any_err (Ok x) p = _
-any_err (Err f) p = p
+-- printed one after the other is printed together
+pub prints_append : {X Y : Type 0} {x : X} {r : Result Y Failed} {old mid new : Output} {a b : List Ink} → Prints a old (Ok x) mid → Prints b mid r new → Prints (a ++ b) old r new
+prints_append {a = a} {b = b} v w = prints_bytes (sym (flat_map-append ink_text a b)) (writes_then v.written w.written)
 
-pub front_known : {X : Type 0} (r : Result X Failed) (old new : Option (List ℕ)) (before after : ℕ) (a : List Ink) → Writes r old new before after a → OnErr r (AddsFront old new (text_of a))
-front_known r old new before after a w = any_err r w.front
+pub prints_cons : {X Y : Type 0} {x : X} {r : Result Y Failed} {old mid new : Output} {i : Ink} {b : List Ink} → Prints (i ∷ []) old (Ok x) mid → Prints b mid r new → Prints (i ∷ b) old r new
+prints_cons {i = i} {b = b} v w = prints_append {a = i ∷ []} {b = b} v w
 
--- written one after the other is written together
-pub writes_append : {X Y : Type 0} {x : X} {r : Result Y Failed} {old mid new : Option (List ℕ)} {before now after : ℕ} {a b : List Ink} → Writes (Ok x) old mid before now a → Writes r mid new now after b → Writes r old new before after (a ++ b)
-writes_append {r = r} {old = old} {mid = mid} {new = new} {before = before} {now = now} {after = after} {a = a} {b = b} v w = record {
-  ok = on_ok_weaker r (λ e. told_then old mid new (text_of a) (text_of b) v.ok e ∙ ap (append_known old) (sym (flat_map-append ink_text a b))) w.ok;
-  front = subst (AddsFront old new) (sym (flat_map-append ink_text a b)) (front_then old mid new (text_of a) (text_of b) v.ok w.front);
-  cause = on_err_weaker r (risen_later before now after v.count) w.cause;
-  count = omega (arith, v.count, w.count);
-}
+-- where the first stopped, both did
+pub stops_off : {X : Type 0} {f : Failed} {old new : Output} {a : List Ink} (b : List Ink) → Prints {X = X} a old (Err f) new → Prints {X = X} (a ++ b) old (Err f) new
+stops_off {a = a} b w = prints_bytes (sym (flat_map-append ink_text a b)) (writes_stopped (text_of b) w.written)
 
-pub writes_cons : {X Y : Type 0} {x : X} {r : Result Y Failed} {old mid new : Option (List ℕ)} {before now after : ℕ} {i : Ink} {b : List Ink} → Writes (Ok x) old mid before now (i ∷ []) → Writes r mid new now after b → Writes r old new before after (i ∷ b)
-writes_cons {i = i} {b = b} v w = writes_append {a = i ∷ []} {b = b} v w
-
--- where the first broke off, both did
-pub breaks_off : {X : Type 0} {f : Failed} {old new : Option (List ℕ)} {before after : ℕ} {a : List Ink} (b : List Ink) → Writes {X = X} (Err f) old new before after a → Writes {X = X} (Err f) old new before after (a ++ b)
-breaks_off {old = old} {new = new} {a = a} b w = record {
-  ok = w.ok;
-  front = subst (AddsFront old new) (sym (flat_map-append ink_text a b)) (front_more old new (text_of a) (text_of b) w.front);
-  cause = w.cause;
-  count = w.count;
-}
-
-pub breaks_cons : {X : Type 0} {f : Failed} {old new : Option (List ℕ)} {before after : ℕ} {i : Ink} (b : List Ink) → Writes {X = X} (Err f) old new before after (i ∷ []) → Writes {X = X} (Err f) old new before after (i ∷ b)
-breaks_cons {i = i} b w = breaks_off {a = i ∷ []} b w
+pub stops_cons : {X : Type 0} {f : Failed} {old new : Output} {i : Ink} (b : List Ink) → Prints {X = X} (i ∷ []) old (Err f) new → Prints {X = X} (i ∷ b) old (Err f) new
+stops_cons {i = i} b w = stops_off {a = i ∷ []} b w
 
 -- what a `?` returns
-pub returned : {X Y : Type 0} {f : Failed} {old new : Option (List ℕ)} {before after : ℕ} {a : List Ink} (Q : Failed → Type 0) (r : Result Y Failed) → IsErrAnd r Q → Writes {X = X} (Err f) old new before after a → Writes r old new before after a
-returned {Y = Y} {old = old} {new = new} {before = before} {after = after} {a = a} Q r q w =
-    let p = err_from_is_err_and r q in
-    let v : Writes {X = Y} (Err p.0) old new before after a = record { ok = _; front = w.front; cause = w.cause; count = w.count } in
-    subst (λ s. Writes s old new before after a) (sym p.1) v
+pub returned : {X Y : Type 0} {f : Failed} {old new : Output} {a : List Ink} (Q : Failed → Type 0) (r : Result Y Failed) → IsErrAnd r Q → Prints {X = X} a old (Err f) new → Prints a old r new
+returned Q r q w = record { written = writes_returned Q r q w.written }
 
 drop_next : {X : Type 0} (xs : List X) (i : ℕ) → drop (suc i) xs ≡ drop (i + 1) xs
 drop_next xs i = let e : suc i ≡ i + 1 = omega arith in ap (λ j. drop j xs) e
@@ -178,13 +122,13 @@ pub arms_end : (bs : List Branch) (i : ℕ) → length bs ≤ i → [] ≡ branc
 unfolding bare
 arms_end bs i h = sym (ap (λ xs. branches (arms (map arm_of xs))) (drop_all i bs h))
 
--- the same, written otherwise
-pub writes_as : {X : Type 0} {r : Result X Failed} {old new : Option (List ℕ)} {before after : ℕ} {a b : List Ink} → a ≡ b → Writes r old new before after a → Writes r old new before after b
-writes_as {r = r} {old = old} {new = new} {before = before} {after = after} e w = subst (Writes r old new before after) e w
+-- the same inks, put otherwise
+pub prints_as : {X : Type 0} {r : Result X Failed} {old new : Output} {a b : List Ink} → a ≡ b → Prints a old r new → Prints b old r new
+prints_as {r = r} {old = old} {new = new} e w = subst (λ is. Prints is old r new) e w
 
--- an operand, its operator, and what follows
-pub writes_around : {X Y Z : Type 0} {x : X} {y : Y} {r : Result Z Failed} {old mid later new : Option (List ℕ)} {before n k after : ℕ} {a b : List Ink} {m : Mark} → Writes (Ok x) old mid before n a → Writes (Ok y) mid later n k (blank ∷ symbol m ∷ blank ∷ []) → Writes r later new k after b → Writes r old new before after (around a m b)
-writes_around u v w = writes_append u (writes_append v w)
+-- an operator between its operands
+pub prints_around : {X Y Z : Type 0} {x : X} {y : Y} {r : Result Z Failed} {old mid later new : Output} {a b : List Ink} {m : Mark} → Prints a old (Ok x) mid → Prints (blank ∷ symbol m ∷ blank ∷ []) mid (Ok y) later → Prints b later r new → Prints (around a m b) old r new
+prints_around u v w = prints_append u (prints_append v w)
 
-pub breaks_operator : {X Y : Type 0} {x : X} {f : Failed} {old mid new : Option (List ℕ)} {before now after : ℕ} {a : List Ink} {m : Mark} (b : List Ink) → Writes (Ok x) old mid before now a → Writes {X = Y} (Err f) mid new now after (blank ∷ symbol m ∷ blank ∷ []) → Writes {X = Y} (Err f) old new before after (around a m b)
-breaks_operator b v w = writes_append v (breaks_off b w)
+pub stops_operator : {X Y : Type 0} {x : X} {f : Failed} {old mid new : Output} {a : List Ink} {m : Mark} (b : List Ink) → Prints a old (Ok x) mid → Prints {X = Y} (blank ∷ symbol m ∷ blank ∷ []) mid (Err f) new → Prints {X = Y} (around a m b) old (Err f) new
+stops_operator b v w = prints_append v (stops_off b w)

@@ -1,9 +1,9 @@
 -- What is printed of what a text spells is a text that spells it again, places aside.
-use Rattle.std.proofs.Common.{◌≡◌, ◌≤◌, ℕ, List, append-nil, refl, sym, arith}
+use Rattle.std.proofs.Common.{◌≤◌, ℕ, List, append-nil, refl, sym, arith}
 use Rattle.std.proofs.lemmas.Result.{on_ok_weaker}
-use Rattle.std.specs.Io.KnownBytes.{append_known}
-use Rattle.std.specs.Prelude.{OnOk, Option, Result}
+use Rattle.std.specs.Prelude.{OnOk, Result}
 use Rattle.outside.specs.declared.Failed.{Failed}
+use Rattle.outside.specs.Told.{Output, Writes}
 use Rattle.smv_tree.specs.Models.{Claim}
 use Rattle.smv_tree.specs.Trees.{Tree}
 use Rattle.smv_parse.specs.Alike.{Reparsed, ReparsedFormula, WroteAlike, WroteAlikeFormula}
@@ -34,12 +34,12 @@ formula_reparsed bytes c s =
     record { claim = again.claim; spelled = record { tokens = back.tokens; scanned = back.scanned; spelled = record { depth = again.depth; spelled = again.spelled; small = less again.depth given.depth _ again.small given.small; closed = λ lt. refl } }; alike = again.alike }
 
 -- what is written of them spells them again
-pub expression_again : {X : Type 0} (r : Result X Failed) (old new : Option (List ℕ)) (x : Tree) → OnOk r (new ≡ append_known old (printed x)) → (bytes : List ℕ) → SpellsExpr bytes x → OnOk r (WroteAlike old new x)
+pub expression_again : {X : Type 0} (r : Result X Failed) (old new : Output) (x : Tree) → Writes (printed x) old r new → (bytes : List ℕ) → SpellsExpr bytes x → OnOk r (WroteAlike old new x)
 expression_again r old new x ok bytes s =
     let a = expression_reparsed bytes x s in
-    on_ok_weaker r (λ w. record { text = printed x; written = w; tree = a.tree; spelled = a.spelled; alike = a.alike }) ok
+    on_ok_weaker r (λ w. record { text = printed x; written = w; tree = a.tree; spelled = a.spelled; alike = a.alike }) ok.ok
 
-pub formula_again : {X : Type 0} (r : Result X Failed) (old new : Option (List ℕ)) (c : Claim) → OnOk r (new ≡ append_known old (claim_printed c)) → (bytes : List ℕ) → SpellsFormulaText bytes c → OnOk r (WroteAlikeFormula old new c)
+pub formula_again : {X : Type 0} (r : Result X Failed) (old new : Output) (c : Claim) → Writes (claim_printed c) old r new → (bytes : List ℕ) → SpellsFormulaText bytes c → OnOk r (WroteAlikeFormula old new c)
 formula_again r old new c ok bytes s =
     let a = formula_reparsed bytes c s in
-    on_ok_weaker r (λ w. record { text = claim_printed c; written = w; claim = a.claim; spelled = a.spelled; alike = a.alike }) ok
+    on_ok_weaker r (λ w. record { text = claim_printed c; written = w; claim = a.claim; spelled = a.spelled; alike = a.alike }) ok.ok

@@ -1,6 +1,7 @@
 -- Trees that agree, places aside, and the tokens that are printed.
-use Rattle.std.specs.Prelude.{◌≡◌, ◌≤◌, ℕ, List, [], ◌∷◌, map, Option}
+use Rattle.std.specs.Prelude.{◌≡◌, ◌≤◌, ℕ, List, [], ◌∷◌, map}
 use Rattle.std.specs.Io.KnownBytes.{append_known}
+use Rattle.outside.specs.Told.{Output}
 use Rattle.smv_tree.specs.declared.place.Place.{Place}
 use Rattle.smv_tree.specs.Models.{Claim, atom, no, after, always, some_time, both}
 use Rattle.smv_tree.specs.Trees.{Tree, Trees, Arms, truth, number, word, name, span, set, cases, choice, one, two, select, next, widen, const, count, no_trees, tree, no_arms, arm}
@@ -102,17 +103,17 @@ pub record ReparsedFormula (c : Claim) : Type 0 where
   pub alike : AlikeClaims c claim
 
 -- what was written is a text that spells the expression, places aside
-pub record WroteAlike (old new : Option (List ℕ)) (x : Tree) : Type 0 where
+pub record WroteAlike (old new : Output) (x : Tree) : Type 0 where
   pub text : List ℕ
-  pub written : new ≡ append_known old text
+  pub written : new.written ≡ append_known old.written text
   pub tree : Tree
   pub spelled : SpellsExpr text tree
   pub alike : Alike x tree
 
 -- what was written is a text that spells the formula, places aside
-pub record WroteAlikeFormula (old new : Option (List ℕ)) (c : Claim) : Type 0 where
+pub record WroteAlikeFormula (old new : Output) (c : Claim) : Type 0 where
   pub text : List ℕ
-  pub written : new ≡ append_known old text
+  pub written : new.written ≡ append_known old.written text
   pub claim : Claim
   pub spelled : SpellsFormulaText text claim
   pub alike : AlikeClaims c claim

@@ -1,5 +1,5 @@
 -- Why a text is no expression.
-use Rattle.std.specs.Prelude.{ℕ, zero, suc, List, [], ◌∷◌, Option, Some, None, fold}
+use Rattle.std.specs.Prelude.{ℕ, zero, suc, List, [], ◌∷◌, ◌++◌, Option, Some, None, codes, decimal, fold}
 use Rattle.smv_tree.specs.declared.place.Place.{Place}
 use Rattle.smv_parse.specs.declared.left_out.LeftOut.{LeftOut}
 use Rattle.smv_parse.specs.declared.left_out.LeftOut.TheVariants as out
@@ -70,3 +70,27 @@ place_of (faults.Past p) = Some p
 place_of (faults.InvarSpec p) = Some p
 place_of (faults.LongName p) = Some p
 place_of (faults.NoMemory e) = None
+
+-- the place of a refusal as it is written before what is said: line and column
+abbrev pub placed : Option Place → List ℕ
+placed None = []
+placed (Some p) = decimal p.line ++ (codes ":" ++ (decimal p.column ++ codes ": "))
+
+-- what a refusal says
+abbrev pub said : ParseFault → List ℕ
+said (faults.BadByte p) = codes "unexpected byte"
+said (faults.BadWord p) = codes "bad word constant"
+said (faults.NumberRange p) = codes "number out of range"
+said (faults.Unexpected p) = codes "unexpected token"
+said (faults.End p) = codes "unexpected end"
+said (faults.Deep p) = codes "nested too deep"
+said (faults.LeftOut p n) = n ++ codes " is left out"
+said (faults.Fairness p) = codes "fairness is left out"
+said (faults.Past p) = codes "past operator is left out"
+said (faults.InvarSpec p) = codes "INVARSPEC is left out"
+said (faults.LongName p) = codes "name longer than 255 bytes"
+said (faults.NoMemory e) = codes "out of memory"
+
+-- the text of a refusal behind its number: the place, where it names one, and what it says
+abbrev pub fault_text : ParseFault → List ℕ
+fault_text f = placed (place_of f) ++ said f

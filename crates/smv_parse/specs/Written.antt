@@ -1,8 +1,7 @@
 -- What a printer has written, as its steps see it.
-use Rattle.std.specs.Prelude.{◌≡◌, ◌≤◌, ℕ, Bool, true, false, List, [], ◌∷◌, Option, Result, OnOk, OnErr}
-use Rattle.std.specs.Io.KnownBytes.{append_known}
+use Rattle.std.specs.Prelude.{Bool, true, false, List, [], ◌∷◌, Result}
 use Rattle.outside.specs.declared.Failed.{Failed}
-use Rattle.outside.specs.Told.{AddsFront, HasRisen}
+use Rattle.outside.specs.Told.{Output, Writes}
 use Rattle.smv_tree.specs.Models.{Claim, both}
 use Rattle.smv_tree.specs.Trees.{Tree, Trees, choice, two}
 use Rattle.smv_parse.specs.declared.lead.Lead.{Lead}
@@ -12,13 +11,9 @@ use Rattle.smv_parse.specs.Forms.{left_level}
 use Rattle.smv_parse.specs.Formulas.{left_of, right_of}
 use Rattle.smv_parse.specs.Printing.{Ink, after_comma, bare, blank, claim_inks, claim_part, level, level_of_claim, listed, right_level, spelled, symbol, text_of}
 
--- What became of something to print, by what the sink tells and by its count of faults: all of it was
--- written, or after a fault, which was counted, a front of it was.
-pub record Writes {X : Type 0} (result : Result X Failed) (old new : Option (List ℕ)) (before after : ℕ) (inks : List Ink) : Type 0 where
-  pub ok : OnOk result (new ≡ append_known old (text_of inks))
-  pub front : AddsFront old new (text_of inks)
-  pub cause : OnErr result (HasRisen before after)
-  pub count : before ≤ after
+-- The bytes of what is printed were written. It is a record, so that a proof finds what is printed.
+pub record Prints {X : Type 0} (inks : List Ink) (old : Output) (result : Result X Failed) (new : Output) : Type 0 where
+  pub written : Writes (text_of inks) old result new
 
 -- the operands of an operator in their places: none of what is no operator
 abbrev pub left_inks : Tree → Lead → List Ink

@@ -1,15 +1,14 @@
 //! Formulas, as they are printed.
 
-ghost use Rattle.std.specs.Prelude.{◌≡◌, ◌≤◌, ◌∷◌, ◌++◌, [], OnOk, OnErr, List, ℕ};
-ghost use Rattle.std.specs.Io.KnownBytes.{append_known};
-ghost use Rattle.outside.specs.Told.{HasRisen, AddsFront};
+ghost use Rattle.std.specs.Prelude.{◌≡◌, ◌∷◌, ◌++◌, [], OnOk, List, ℕ};
+ghost use Rattle.outside.specs.Told.{Writes};
 ghost use Rattle.smv_tree.specs.Models.{formula_claim};
 ghost use Rattle.smv_parse.specs.declared.mark.Mark.TheVariants as marks;
 ghost use Rattle.smv_parse.specs.Alike.{WroteAlikeFormula};
 ghost use Rattle.smv_parse.specs.Formulas.{left_of, right_of};
 ghost use Rattle.smv_parse.specs.Printing.{around, blank, claim_inks, claim_level, claim_part, claim_printed, level_of_claim, mark_of_claim, symbol};
 ghost use Rattle.smv_parse.specs.Texts.{SpellsFormulaText};
-ghost use Rattle.smv_parse.specs.Written.{Writes, claim_left_inks, claim_right_inks};
+ghost use Rattle.smv_parse.specs.Written.{Prints, claim_left_inks, claim_right_inks};
 
 use crate::forms::ATOMIC;
 use crate::formula::{joining_by, rightward};
@@ -81,7 +80,7 @@ fn right_level(level: u32) -> u32
 /// Writes a formula in the place of a part, in parentheses where it needs them.
 #[cycle(formula)]
 fn put_operand<S: Sink>(out: &mut S, place: u32, operand: &Formula) -> Result<(), Failed>
-    ensures { Writes result (S.written out.old) (S.written out.new) (S.faults out.old) (S.faults out.new) (claim_part place (formula_claim operand.now) (claim_inks (formula_claim operand.now))) }
+    ensures { Prints (claim_part place (formula_claim operand.now) (claim_inks (formula_claim operand.now))) (S.told out.old) result (S.told out.new) }
 {
     if place < level(operand) {
         return put_enclosed(out, operand);
@@ -92,7 +91,7 @@ fn put_operand<S: Sink>(out: &mut S, place: u32, operand: &Formula) -> Result<()
 /// Writes a formula in parentheses.
 #[cycle(formula)]
 fn put_enclosed<S: Sink>(out: &mut S, operand: &Formula) -> Result<(), Failed>
-    ensures { Writes result (S.written out.old) (S.written out.new) (S.faults out.old) (S.faults out.new) (symbol marks.OpenRound ∷ (claim_inks (formula_claim operand.now) ++ symbol marks.CloseRound ∷ [])) }
+    ensures { Prints (symbol marks.OpenRound ∷ (claim_inks (formula_claim operand.now) ++ symbol marks.CloseRound ∷ [])) (S.told out.old) result (S.told out.new) }
 {
     put_mark(out, Mark::OpenRound)?;
     put_formula(out, operand)?;
@@ -102,7 +101,7 @@ fn put_enclosed<S: Sink>(out: &mut S, operand: &Formula) -> Result<(), Failed>
 /// Writes a `!` and its operand.
 #[cycle(formula)]
 fn put_not<S: Sink>(out: &mut S, f: &Formula) -> Result<(), Failed>
-    ensures { Writes result (S.written out.old) (S.written out.new) (S.faults out.old) (S.faults out.new) (symbol marks.Bang ∷ claim_part 1 (formula_claim f.now) (claim_inks (formula_claim f.now))) }
+    ensures { Prints (symbol marks.Bang ∷ claim_part 1 (formula_claim f.now) (claim_inks (formula_claim f.now))) (S.told out.old) result (S.told out.new) }
 {
     put_mark(out, Mark::Bang)?;
     put_operand(out, 1, f)
@@ -111,7 +110,7 @@ fn put_not<S: Sink>(out: &mut S, f: &Formula) -> Result<(), Failed>
 /// Writes a temporal operator and its operand.
 #[cycle(formula)]
 fn put_temporal<S: Sink>(out: &mut S, mark: Mark, f: &Formula) -> Result<(), Failed>
-    ensures { Writes result (S.written out.old) (S.written out.new) (S.faults out.old) (S.faults out.new) (symbol mark ∷ blank ∷ claim_part 1 (formula_claim f.now) (claim_inks (formula_claim f.now))) }
+    ensures { Prints (symbol mark ∷ blank ∷ claim_part 1 (formula_claim f.now) (claim_inks (formula_claim f.now))) (S.told out.old) result (S.told out.new) }
 {
     put_mark(out, mark)?;
     put_blank(out)?;
@@ -120,9 +119,9 @@ fn put_temporal<S: Sink>(out: &mut S, mark: Mark, f: &Formula) -> Result<(), Fai
 
 /// Writes the operand to the left of an operator.
 #[cycle(formula)]
-#[tactic(auto, using(crate::proofs::Inks::writes_none))]
+#[tactic(auto, using(crate::proofs::Inks::prints_none))]
 fn put_left<S: Sink>(out: &mut S, f: &Formula) -> Result<(), Failed>
-    ensures { Writes result (S.written out.old) (S.written out.new) (S.faults out.old) (S.faults out.new) (claim_left_inks (formula_claim f.now)) }
+    ensures { Prints (claim_left_inks (formula_claim f.now)) (S.told out.old) result (S.told out.new) }
 {
     match f {
         Formula::Atom(_) => Ok(()),
@@ -136,9 +135,9 @@ fn put_left<S: Sink>(out: &mut S, f: &Formula) -> Result<(), Failed>
 
 /// Writes the operand to the right of an operator.
 #[cycle(formula)]
-#[tactic(auto, using(crate::proofs::Inks::writes_none))]
+#[tactic(auto, using(crate::proofs::Inks::prints_none))]
 fn put_right<S: Sink>(out: &mut S, f: &Formula) -> Result<(), Failed>
-    ensures { Writes result (S.written out.old) (S.written out.new) (S.faults out.old) (S.faults out.new) (claim_right_inks (formula_claim f.now)) }
+    ensures { Prints (claim_right_inks (formula_claim f.now)) (S.told out.old) result (S.told out.new) }
 {
     match f {
         Formula::Atom(_) => Ok(()),
@@ -153,7 +152,7 @@ fn put_right<S: Sink>(out: &mut S, f: &Formula) -> Result<(), Failed>
 /// Writes an operator between its operands.
 #[cycle(formula)]
 fn put_two<S: Sink>(out: &mut S, mark: Mark, f: &Formula) -> Result<(), Failed>
-    ensures { Writes result (S.written out.old) (S.written out.new) (S.faults out.old) (S.faults out.new) (around (claim_left_inks (formula_claim f.now)) mark (claim_right_inks (formula_claim f.now))) }
+    ensures { Prints (around (claim_left_inks (formula_claim f.now)) mark (claim_right_inks (formula_claim f.now))) (S.told out.old) result (S.told out.new) }
 {
     put_left(out, f)?;
     put_operator(out, mark)?;
@@ -164,7 +163,7 @@ fn put_two<S: Sink>(out: &mut S, mark: Mark, f: &Formula) -> Result<(), Failed>
 #[cycle(formula)]
 #[tactic(auto, unfolding(crate::specs::Printing::claim_inks))]
 fn put_formula<S: Sink>(out: &mut S, f: &Formula) -> Result<(), Failed>
-    ensures { Writes result (S.written out.old) (S.written out.new) (S.faults out.old) (S.faults out.new) (claim_inks (formula_claim f.now)) }
+    ensures { Prints (claim_inks (formula_claim f.now)) (S.told out.old) result (S.told out.new) }
 {
     match f {
         Formula::Atom(e) => put_part(out, Lead::Atom, ATOMIC, e),
@@ -183,14 +182,11 @@ fn put_formula<S: Sink>(out: &mut S, f: &Formula) -> Result<(), Failed>
 /// # Errors
 ///
 /// `Failed` after a fault of the sink; a front of the text was written then.
-#[tactic(auto, using(crate::proofs::Inks::written_known, crate::proofs::Inks::front_known))]
+#[tactic(auto, using(crate::proofs::Inks::inks_written))]
 pub fn print_formula<S: Sink>(f: &Formula, out: &mut S) -> Result<(), Failed>
-    ensures ok { OnOk result (S.written out.new ≡ append_known (S.written out.old) (claim_printed (formula_claim f.now))) }
+    ensures written { Writes (claim_printed (formula_claim f.now)) (S.told out.old) result (S.told out.new) }
     // what is written of a formula that a text spells is a text that spells it again, places aside
-    ensures again { (bytes : List ℕ) → SpellsFormulaText bytes (formula_claim f.now) → OnOk result (WroteAlikeFormula (S.written out.old) (S.written out.new) (formula_claim f.now)) }
-    ensures err { OnErr result (AddsFront (S.written out.old) (S.written out.new) (claim_printed (formula_claim f.now))) }
-    ensures cause { OnErr result (HasRisen (S.faults out.old) (S.faults out.new)) }
-    ensures count { S.faults out.old ≤ S.faults out.new }
+    ensures again { (bytes : List ℕ) → SpellsFormulaText bytes (formula_claim f.now) → OnOk result (WroteAlikeFormula (S.told out.old) (S.told out.new) (formula_claim f.now)) }
 {
     put_formula(out, f)
 }

@@ -1,12 +1,9 @@
 //! Single tokens, as they are printed.
 
-ghost use Rattle.std.specs.Prelude.{◌≡◌, ◌≤◌, ◌∷◌, [], OnOk, OnErr};
-ghost use Rattle.std.specs.Fmt.{signed_decimal};
-ghost use Rattle.std.specs.Io.KnownBytes.{append_known};
-ghost use Rattle.outside.specs.Told.{AddsFront, HasRisen};
+ghost use Rattle.std.specs.Prelude.{◌≡◌, ◌∷◌, []};
 ghost use Rattle.smv_parse.specs.declared.token.Lexeme.TheVariants as lexeme;
 ghost use Rattle.smv_parse.specs.Printing.{blank, dotted, integer, numeral, path, path_head, symbol, token, width, word_head};
-ghost use Rattle.smv_parse.specs.Written.{Writes};
+ghost use Rattle.smv_parse.specs.Written.{Prints};
 
 use crate::mark::Mark;
 use itoa::Buffer;
@@ -14,24 +11,24 @@ use outside::{Failed, Sink, put_all, put_parts};
 use smv_tree::{Name, WordVal};
 
 /// Writes a blank.
-#[tactic(auto, using(crate::proofs::Inks::writes_one))]
+#[tactic(auto, using(crate::proofs::Inks::prints_one))]
 pub fn put_blank<S: Sink>(out: &mut S) -> Result<(), Failed>
-    ensures { Writes result (S.written out.old) (S.written out.new) (S.faults out.old) (S.faults out.new) (blank ∷ []) }
+    ensures { Prints (blank ∷ []) (S.told out.old) result (S.told out.new) }
 {
     put_all(out, b" ")
 }
 
 /// Writes a mark.
-#[tactic(auto, using(crate::proofs::Inks::writes_one))]
+#[tactic(auto, using(crate::proofs::Inks::prints_one))]
 pub fn put_mark<S: Sink>(out: &mut S, mark: Mark) -> Result<(), Failed>
-    ensures { Writes result (S.written out.old) (S.written out.new) (S.faults out.old) (S.faults out.new) (symbol mark ∷ []) }
+    ensures { Prints (symbol mark ∷ []) (S.told out.old) result (S.told out.new) }
 {
     put_all(out, mark.text())
 }
 
 /// Writes a mark between two blanks.
 pub fn put_operator<S: Sink>(out: &mut S, mark: Mark) -> Result<(), Failed>
-    ensures { Writes result (S.written out.old) (S.written out.new) (S.faults out.old) (S.faults out.new) (blank ∷ symbol mark ∷ blank ∷ []) }
+    ensures { Prints (blank ∷ symbol mark ∷ blank ∷ []) (S.told out.old) result (S.told out.new) }
 {
     put_blank(out)?;
     put_mark(out, mark)?;
@@ -39,17 +36,16 @@ pub fn put_operator<S: Sink>(out: &mut S, mark: Mark) -> Result<(), Failed>
 }
 
 /// Writes a number in decimal digits.
-#[tactic(auto, using(crate::proofs::Inks::writes_one))]
+#[tactic(auto, using(crate::proofs::Inks::prints_one))]
 pub fn put_number<S: Sink>(out: &mut S, number: u64) -> Result<(), Failed>
-    ensures { Writes result (S.written out.old) (S.written out.new) (S.faults out.old) (S.faults out.new) (numeral number ∷ []) }
+    ensures { Prints (numeral number ∷ []) (S.told out.old) result (S.told out.new) }
 {
-    let mut buffer = Buffer::new();
-    put_all(out, buffer.format(number).as_bytes())
+    outside::put_number(out, number)
 }
 
 /// Writes a number behind a comma, and the bracket behind it.
 pub fn put_width<S: Sink>(out: &mut S, number: u32) -> Result<(), Failed>
-    ensures { Writes result (S.written out.old) (S.written out.new) (S.faults out.old) (S.faults out.new) (width number) }
+    ensures { Prints (width number) (S.told out.old) result (S.told out.new) }
 {
     put_mark(out, Mark::Comma)?;
     put_blank(out)?;
@@ -57,22 +53,11 @@ pub fn put_width<S: Sink>(out: &mut S, number: u32) -> Result<(), Failed>
     put_mark(out, Mark::CloseRound)
 }
 
-/// Writes a number as std does.
-fn put_signed<S: Sink>(out: &mut S, number: &i64) -> Result<(), Failed>
-    ensures ok { OnOk result (S.written out.new ≡ append_known (S.written out.old) (signed_decimal number.now)) }
-    ensures err { OnErr result (AddsFront (S.written out.old) (S.written out.new) (signed_decimal number.now)) }
-    ensures cause { OnErr result (HasRisen (S.faults out.old) (S.faults out.new)) }
-    ensures count { S.faults out.old ≤ S.faults out.new }
-{
-    let mut buffer = Buffer::new();
-    put_all(out, buffer.format(*number).as_bytes())
-}
-
 /// Writes a number, behind a minus sign where it is below zero.
 pub fn put_integer<S: Sink>(out: &mut S, number: &i64) -> Result<(), Failed>
-    ensures { Writes result (S.written out.old) (S.written out.new) (S.faults out.old) (S.faults out.new) (integer number.now) }
+    ensures { Prints (integer number.now) (S.told out.old) result (S.told out.new) }
 {
-    put_signed(out, number)
+    outside::put_integer(out, number)
 }
 
 /// What a word constant begins with.
@@ -83,9 +68,9 @@ fn word_head(signed: bool) -> &'static [u8]
 }
 
 /// Writes a word constant.
-#[tactic(auto, using(crate::proofs::Inks::writes_one))]
+#[tactic(auto, using(crate::proofs::Inks::prints_one))]
 pub fn put_word<S: Sink>(out: &mut S, word: WordVal) -> Result<(), Failed>
-    ensures { Writes result (S.written out.old) (S.written out.new) (S.faults out.old) (S.faults out.new) (token (lexeme.Word word) ∷ []) }
+    ensures { Prints (token (lexeme.Word word) ∷ []) (S.told out.old) result (S.told out.new) }
 {
     let mut width = Buffer::new();
     let mut bits = Buffer::new();
@@ -95,24 +80,24 @@ pub fn put_word<S: Sink>(out: &mut S, word: WordVal) -> Result<(), Failed>
 }
 
 /// Writes a name.
-#[tactic(auto, using(crate::proofs::Inks::writes_one))]
+#[tactic(auto, using(crate::proofs::Inks::prints_one))]
 fn put_name<S: Sink>(out: &mut S, name: &Name) -> Result<(), Failed>
-    ensures { Writes result (S.written out.old) (S.written out.new) (S.faults out.old) (S.faults out.new) (token (lexeme.Name name.now) ∷ []) }
+    ensures { Prints (token (lexeme.Name name.now) ∷ []) (S.told out.old) result (S.told out.new) }
 {
     put_all(out, name.as_slice())
 }
 
 /// Writes what a path begins with.
-#[tactic(auto, using(crate::proofs::Inks::writes_head))]
+#[tactic(auto, using(crate::proofs::Inks::prints_head))]
 fn put_head<S: Sink>(out: &mut S, name: &Name) -> Result<(), Failed>
-    ensures { Writes result (S.written out.old) (S.written out.new) (S.faults out.old) (S.faults out.new) (token (path_head name.now) ∷ []) }
+    ensures { Prints (token (path_head name.now) ∷ []) (S.told out.old) result (S.told out.new) }
 {
     put_name(out, name)
 }
 
 /// Writes a name behind a dot.
 fn put_member<S: Sink>(out: &mut S, name: &Name) -> Result<(), Failed>
-    ensures { Writes result (S.written out.old) (S.written out.new) (S.faults out.old) (S.faults out.new) (dotted (name.now ∷ [])) }
+    ensures { Prints (dotted (name.now ∷ [])) (S.told out.old) result (S.told out.new) }
 {
     put_mark(out, Mark::Dot)?;
     put_name(out, name)
@@ -120,7 +105,7 @@ fn put_member<S: Sink>(out: &mut S, name: &Name) -> Result<(), Failed>
 
 /// Writes names, each behind a dot.
 fn put_dotted<S: Sink>(out: &mut S, names: &[Name]) -> Result<(), Failed>
-    ensures { Writes result (S.written out.old) (S.written out.new) (S.faults out.old) (S.faults out.new) (dotted names.now) }
+    ensures { Prints (dotted names.now) (S.told out.old) result (S.told out.new) }
 {
     for name in names {
         put_member(out, name)?;
@@ -130,16 +115,16 @@ fn put_dotted<S: Sink>(out: &mut S, names: &[Name]) -> Result<(), Failed>
 
 /// Writes a name, and others behind dots.
 fn put_first<S: Sink>(out: &mut S, first: &Name, others: &[Name]) -> Result<(), Failed>
-    ensures { Writes result (S.written out.old) (S.written out.new) (S.faults out.old) (S.faults out.new) (path (first.now ∷ others.now)) }
+    ensures { Prints (path (first.now ∷ others.now)) (S.told out.old) result (S.told out.new) }
 {
     put_head(out, first)?;
     put_dotted(out, others)
 }
 
 /// Writes names with dots between them.
-#[tactic(auto, using(crate::proofs::Inks::writes_none))]
+#[tactic(auto, using(crate::proofs::Inks::prints_none))]
 pub fn put_path<S: Sink>(out: &mut S, names: &[Name]) -> Result<(), Failed>
-    ensures { Writes result (S.written out.old) (S.written out.new) (S.faults out.old) (S.faults out.new) (path names.now) }
+    ensures { Prints (path names.now) (S.told out.old) result (S.told out.new) }
 {
     match names {
         [] => Ok(()),

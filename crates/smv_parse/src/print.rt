@@ -1,8 +1,7 @@
 //! Expressions, as they are printed.
 
-ghost use Rattle.std.specs.Prelude.{◌≡◌, ◌≤◌, ◌∷◌, ◌++◌, [], OnOk, OnErr, List, map, ℕ};
-ghost use Rattle.std.specs.Io.KnownBytes.{append_known};
-ghost use Rattle.outside.specs.Told.{HasRisen, AddsFront};
+ghost use Rattle.std.specs.Prelude.{◌≡◌, ◌∷◌, ◌++◌, [], OnOk, List, map, ℕ};
+ghost use Rattle.outside.specs.Told.{Writes};
 ghost use Rattle.smv_tree.specs.Trees.{arms, expr_tree, one, trees};
 ghost use Rattle.smv_parse.specs.declared.lead.Lead.TheVariants as lead_is;
 ghost use Rattle.smv_parse.specs.declared.mark.Mark.TheVariants as marks;
@@ -10,7 +9,7 @@ ghost use Rattle.smv_parse.specs.Alike.{WroteAlike};
 ghost use Rattle.smv_parse.specs.Part.{arm_of};
 ghost use Rattle.smv_parse.specs.Printing.{around, bare, branches, call, blank, gap, integer, listed, numeral, printed, spelled, symbol, width};
 ghost use Rattle.smv_parse.specs.Texts.{SpellsExpr};
-ghost use Rattle.smv_parse.specs.Written.{Writes, left_inks, right_inks, separator, then_inks};
+ghost use Rattle.smv_parse.specs.Written.{Prints, left_inks, right_inks, separator, then_inks};
 
 use crate::ink::{
     put_blank, put_integer, put_mark, put_number, put_operator, put_path, put_width, put_word,
@@ -23,7 +22,7 @@ use smv_tree::{Branch, Expr, Op1, Op2, Place};
 
 /// Writes the blank between two signs, if there are two.
 fn put_gap<S: Sink>(out: &mut S, operand: &Expr) -> Result<(), Failed>
-    ensures { Writes result (S.written out.old) (S.written out.new) (S.faults out.old) (S.faults out.new) (gap (expr_tree operand.now)) }
+    ensures { Prints (gap (expr_tree operand.now)) (S.told out.old) result (S.told out.new) }
 {
     if is_negation(operand) {
         return put_blank(out);
@@ -33,7 +32,7 @@ fn put_gap<S: Sink>(out: &mut S, operand: &Expr) -> Result<(), Failed>
 
 /// Writes a range.
 fn put_span<S: Sink>(out: &mut S, low: &i64, high: &i64) -> Result<(), Failed>
-    ensures { Writes result (S.written out.old) (S.written out.new) (S.faults out.old) (S.faults out.new) (integer low.now ++ (symbol marks.Dots ∷ integer high.now)) }
+    ensures { Prints (integer low.now ++ (symbol marks.Dots ∷ integer high.now)) (S.told out.old) result (S.told out.new) }
 {
     put_integer(out, low)?;
     put_mark(out, Mark::Dots)?;
@@ -42,7 +41,7 @@ fn put_span<S: Sink>(out: &mut S, low: &i64, high: &i64) -> Result<(), Failed>
 
 /// Writes a number and its width as a word.
 fn put_constant<S: Sink>(out: &mut S, mark: Mark, value: &i64, bits: u32) -> Result<(), Failed>
-    ensures { Writes result (S.written out.old) (S.written out.new) (S.faults out.old) (S.faults out.new) (symbol mark ∷ symbol marks.OpenRound ∷ (integer value.now ++ width bits)) }
+    ensures { Prints (symbol mark ∷ symbol marks.OpenRound ∷ (integer value.now ++ width bits)) (S.told out.old) result (S.told out.new) }
 {
     put_mark(out, mark)?;
     put_mark(out, Mark::OpenRound)?;
@@ -52,7 +51,7 @@ fn put_constant<S: Sink>(out: &mut S, mark: Mark, value: &i64, bits: u32) -> Res
 
 /// Writes the places of bits.
 fn put_bits<S: Sink>(out: &mut S, high: u32, low: u32) -> Result<(), Failed>
-    ensures { Writes result (S.written out.old) (S.written out.new) (S.faults out.old) (S.faults out.new) (symbol marks.OpenSquare ∷ numeral high ∷ symbol marks.Colon ∷ numeral low ∷ symbol marks.CloseSquare ∷ []) }
+    ensures { Prints (symbol marks.OpenSquare ∷ numeral high ∷ symbol marks.Colon ∷ numeral low ∷ symbol marks.CloseSquare ∷ []) (S.told out.old) result (S.told out.new) }
 {
     put_mark(out, Mark::OpenSquare)?;
     put_number(out, high as u64)?;
@@ -63,16 +62,16 @@ fn put_bits<S: Sink>(out: &mut S, high: u32, low: u32) -> Result<(), Failed>
 
 /// Writes a comma and a blank.
 fn put_comma<S: Sink>(out: &mut S) -> Result<(), Failed>
-    ensures { Writes result (S.written out.old) (S.written out.new) (S.faults out.old) (S.faults out.new) (symbol marks.Comma ∷ blank ∷ []) }
+    ensures { Prints (symbol marks.Comma ∷ blank ∷ []) (S.told out.old) result (S.told out.new) }
 {
     put_mark(out, Mark::Comma)?;
     put_blank(out)
 }
 
 /// Writes what stands before an expression of a list that is not the first.
-#[tactic(auto, using(crate::proofs::Inks::writes_none))]
+#[tactic(auto, using(crate::proofs::Inks::prints_none))]
 fn put_separator<S: Sink>(out: &mut S, later: bool) -> Result<(), Failed>
-    ensures { Writes result (S.written out.old) (S.written out.new) (S.faults out.old) (S.faults out.new) (separator later) }
+    ensures { Prints (separator later) (S.told out.old) result (S.told out.new) }
 {
     if later {
         return put_comma(out);
@@ -83,7 +82,7 @@ fn put_separator<S: Sink>(out: &mut S, later: bool) -> Result<(), Failed>
 /// Writes an expression in the place of a part, in parentheses where it needs them.
 #[cycle(print)]
 pub fn put_part<S: Sink>(out: &mut S, lead: Lead, place: u32, e: &Expr) -> Result<(), Failed>
-    ensures { Writes result (S.written out.old) (S.written out.new) (S.faults out.old) (S.faults out.new) (spelled lead place (expr_tree e.now)) }
+    ensures { Prints (spelled lead place (expr_tree e.now)) (S.told out.old) result (S.told out.new) }
 {
     if place < level(e) || misread(lead, e) {
         return put_enclosed(out, e);
@@ -94,7 +93,7 @@ pub fn put_part<S: Sink>(out: &mut S, lead: Lead, place: u32, e: &Expr) -> Resul
 /// Writes an expression in parentheses.
 #[cycle(print)]
 fn put_enclosed<S: Sink>(out: &mut S, inner: &Expr) -> Result<(), Failed>
-    ensures { Writes result (S.written out.old) (S.written out.new) (S.faults out.old) (S.faults out.new) (symbol marks.OpenRound ∷ (bare (expr_tree inner.now) lead_is.Free ++ symbol marks.CloseRound ∷ [])) }
+    ensures { Prints (symbol marks.OpenRound ∷ (bare (expr_tree inner.now) lead_is.Free ++ symbol marks.CloseRound ∷ [])) (S.told out.old) result (S.told out.new) }
 {
     put_mark(out, Mark::OpenRound)?;
     put_bare(out, Lead::Free, inner)?;
@@ -104,7 +103,7 @@ fn put_enclosed<S: Sink>(out: &mut S, inner: &Expr) -> Result<(), Failed>
 /// Writes a function of one operand.
 #[cycle(print)]
 fn put_call<S: Sink>(out: &mut S, mark: Mark, operand: &Expr) -> Result<(), Failed>
-    ensures { Writes result (S.written out.old) (S.written out.new) (S.faults out.old) (S.faults out.new) (call mark (bare (expr_tree operand.now) lead_is.Free)) }
+    ensures { Prints (call mark (bare (expr_tree operand.now) lead_is.Free)) (S.told out.old) result (S.told out.new) }
 {
     put_mark(out, mark)?;
     put_enclosed(out, operand)
@@ -113,7 +112,7 @@ fn put_call<S: Sink>(out: &mut S, mark: Mark, operand: &Expr) -> Result<(), Fail
 /// Writes an expression and a width in parentheses.
 #[cycle(print)]
 fn put_widened<S: Sink>(out: &mut S, mark: Mark, operand: &Expr, bits: u32) -> Result<(), Failed>
-    ensures { Writes result (S.written out.old) (S.written out.new) (S.faults out.old) (S.faults out.new) (symbol mark ∷ symbol marks.OpenRound ∷ (bare (expr_tree operand.now) lead_is.Free ++ width bits)) }
+    ensures { Prints (symbol mark ∷ symbol marks.OpenRound ∷ (bare (expr_tree operand.now) lead_is.Free ++ width bits)) (S.told out.old) result (S.told out.new) }
 {
     put_mark(out, mark)?;
     put_mark(out, Mark::OpenRound)?;
@@ -124,7 +123,7 @@ fn put_widened<S: Sink>(out: &mut S, mark: Mark, operand: &Expr, bits: u32) -> R
 /// Writes a `!` and its operand.
 #[cycle(print)]
 fn put_not<S: Sink>(out: &mut S, operand: &Expr) -> Result<(), Failed>
-    ensures { Writes result (S.written out.old) (S.written out.new) (S.faults out.old) (S.faults out.new) (symbol marks.Bang ∷ spelled lead_is.Free 2 (expr_tree operand.now)) }
+    ensures { Prints (symbol marks.Bang ∷ spelled lead_is.Free 2 (expr_tree operand.now)) (S.told out.old) result (S.told out.new) }
 {
     put_mark(out, Mark::Bang)?;
     put_part(out, Lead::Free, 2, operand)
@@ -133,7 +132,7 @@ fn put_not<S: Sink>(out: &mut S, operand: &Expr) -> Result<(), Failed>
 /// Writes a `-` and its operand.
 #[cycle(print)]
 fn put_negated<S: Sink>(out: &mut S, operand: &Expr) -> Result<(), Failed>
-    ensures { Writes result (S.written out.old) (S.written out.new) (S.faults out.old) (S.faults out.new) (symbol marks.Minus ∷ (gap (expr_tree operand.now) ++ spelled lead_is.Minus 4 (expr_tree operand.now))) }
+    ensures { Prints (symbol marks.Minus ∷ (gap (expr_tree operand.now) ++ spelled lead_is.Minus 4 (expr_tree operand.now))) (S.told out.old) result (S.told out.new) }
 {
     put_mark(out, Mark::Minus)?;
     put_gap(out, operand)?;
@@ -144,7 +143,7 @@ fn put_negated<S: Sink>(out: &mut S, operand: &Expr) -> Result<(), Failed>
 #[cycle(print)]
 #[tactic(auto, unfolding(crate::specs::Printing::bare))]
 fn put_one<S: Sink>(out: &mut S, place: Place, op: Op1, operand: &Expr) -> Result<(), Failed>
-    ensures { Writes result (S.written out.old) (S.written out.new) (S.faults out.old) (S.faults out.new) (bare (one place op (expr_tree operand.now)) lead_is.Free) }
+    ensures { Prints (bare (one place op (expr_tree operand.now)) lead_is.Free) (S.told out.old) result (S.told out.new) }
 {
     match op {
         Op1::Not => put_not(out, operand),
@@ -159,9 +158,9 @@ fn put_one<S: Sink>(out: &mut S, place: Place, op: Op1, operand: &Expr) -> Resul
 
 /// Writes the operand to the left of an operator, or the condition before a `?`.
 #[cycle(print)]
-#[tactic(auto, using(crate::proofs::Inks::writes_none))]
+#[tactic(auto, using(crate::proofs::Inks::prints_none))]
 fn put_left<S: Sink>(out: &mut S, lead: Lead, e: &Expr) -> Result<(), Failed>
-    ensures { Writes result (S.written out.old) (S.written out.new) (S.faults out.old) (S.faults out.new) (left_inks (expr_tree e.now) lead) }
+    ensures { Prints (left_inks (expr_tree e.now) lead) (S.told out.old) result (S.told out.new) }
 {
     match e {
         Expr::If(_, left, _, _) | Expr::Two(_, _, left, _) => {
@@ -173,9 +172,9 @@ fn put_left<S: Sink>(out: &mut S, lead: Lead, e: &Expr) -> Result<(), Failed>
 
 /// Writes the first branch of a condition.
 #[cycle(print)]
-#[tactic(auto, using(crate::proofs::Inks::writes_none))]
+#[tactic(auto, using(crate::proofs::Inks::prints_none))]
 fn put_then<S: Sink>(out: &mut S, e: &Expr) -> Result<(), Failed>
-    ensures { Writes result (S.written out.old) (S.written out.new) (S.faults out.old) (S.faults out.new) (then_inks (expr_tree e.now)) }
+    ensures { Prints (then_inks (expr_tree e.now)) (S.told out.old) result (S.told out.new) }
 {
     match e {
         Expr::If(_, _, then, _) => put_bare(out, Lead::Free, then),
@@ -185,9 +184,9 @@ fn put_then<S: Sink>(out: &mut S, e: &Expr) -> Result<(), Failed>
 
 /// Writes the operand to the right of an operator, or the second branch of a condition.
 #[cycle(print)]
-#[tactic(auto, using(crate::proofs::Inks::writes_none))]
+#[tactic(auto, using(crate::proofs::Inks::prints_none))]
 fn put_right<S: Sink>(out: &mut S, e: &Expr) -> Result<(), Failed>
-    ensures { Writes result (S.written out.old) (S.written out.new) (S.faults out.old) (S.faults out.new) (right_inks (expr_tree e.now)) }
+    ensures { Prints (right_inks (expr_tree e.now)) (S.told out.old) result (S.told out.new) }
 {
     match e {
         Expr::If(_, _, _, right) | Expr::Two(_, _, _, right) => {
@@ -200,7 +199,7 @@ fn put_right<S: Sink>(out: &mut S, e: &Expr) -> Result<(), Failed>
 /// Writes an operator between its operands.
 #[cycle(print)]
 fn put_two<S: Sink>(out: &mut S, lead: Lead, mark: Mark, e: &Expr) -> Result<(), Failed>
-    ensures { Writes result (S.written out.old) (S.written out.new) (S.faults out.old) (S.faults out.new) (around (left_inks (expr_tree e.now) lead) mark (right_inks (expr_tree e.now))) }
+    ensures { Prints (around (left_inks (expr_tree e.now) lead) mark (right_inks (expr_tree e.now))) (S.told out.old) result (S.told out.new) }
 {
     put_left(out, lead, e)?;
     put_operator(out, mark)?;
@@ -210,7 +209,7 @@ fn put_two<S: Sink>(out: &mut S, lead: Lead, mark: Mark, e: &Expr) -> Result<(),
 /// Writes a condition and its branches.
 #[cycle(print)]
 fn put_if<S: Sink>(out: &mut S, lead: Lead, e: &Expr) -> Result<(), Failed>
-    ensures { Writes result (S.written out.old) (S.written out.new) (S.faults out.old) (S.faults out.new) (around (left_inks (expr_tree e.now) lead) marks.Question (around (then_inks (expr_tree e.now)) marks.Colon (right_inks (expr_tree e.now)))) }
+    ensures { Prints (around (left_inks (expr_tree e.now) lead) marks.Question (around (then_inks (expr_tree e.now)) marks.Colon (right_inks (expr_tree e.now)))) (S.told out.old) result (S.told out.new) }
 {
     put_left(out, lead, e)?;
     put_operator(out, Mark::Question)?;
@@ -228,7 +227,7 @@ fn put_selected<S: Sink>(
     high: u32,
     low: u32,
 ) -> Result<(), Failed>
-    ensures { Writes result (S.written out.old) (S.written out.new) (S.faults out.old) (S.faults out.new) (spelled lead 1 (expr_tree operand.now) ++ (symbol marks.OpenSquare ∷ numeral high ∷ symbol marks.Colon ∷ numeral low ∷ symbol marks.CloseSquare ∷ [])) }
+    ensures { Prints (spelled lead 1 (expr_tree operand.now) ++ (symbol marks.OpenSquare ∷ numeral high ∷ symbol marks.Colon ∷ numeral low ∷ symbol marks.CloseSquare ∷ [])) (S.told out.old) result (S.told out.new) }
 {
     put_part(out, lead, 1, operand)?;
     put_bits(out, high, low)
@@ -237,7 +236,7 @@ fn put_selected<S: Sink>(
 /// Writes an expression of a list, behind a comma unless it is the first.
 #[cycle(print)]
 fn put_item<S: Sink>(out: &mut S, later: bool, item: &Expr) -> Result<(), Failed>
-    ensures { Writes result (S.written out.old) (S.written out.new) (S.faults out.old) (S.faults out.new) (separator later ++ bare (expr_tree item.now) lead_is.Free) }
+    ensures { Prints (separator later ++ bare (expr_tree item.now) lead_is.Free) (S.told out.old) result (S.told out.new) }
 {
     put_separator(out, later)?;
     put_bare(out, Lead::Free, item)
@@ -246,7 +245,7 @@ fn put_item<S: Sink>(out: &mut S, later: bool, item: &Expr) -> Result<(), Failed
 /// Writes expressions with commas between them.
 #[cycle(print)]
 fn put_list<S: Sink>(out: &mut S, es: &[Expr]) -> Result<(), Failed>
-    ensures { Writes result (S.written out.old) (S.written out.new) (S.faults out.old) (S.faults out.new) (listed (trees (map expr_tree es.now))) }
+    ensures { Prints (listed (trees (map expr_tree es.now))) (S.told out.old) result (S.told out.new) }
 {
     for (i, e) in es.iter().enumerate() {
         put_item(out, i > 0, e)?;
@@ -257,7 +256,7 @@ fn put_list<S: Sink>(out: &mut S, es: &[Expr]) -> Result<(), Failed>
 /// Writes a set.
 #[cycle(print)]
 fn put_set<S: Sink>(out: &mut S, es: &[Expr]) -> Result<(), Failed>
-    ensures { Writes result (S.written out.old) (S.written out.new) (S.faults out.old) (S.faults out.new) (symbol marks.OpenCurly ∷ (listed (trees (map expr_tree es.now)) ++ symbol marks.CloseCurly ∷ [])) }
+    ensures { Prints (symbol marks.OpenCurly ∷ (listed (trees (map expr_tree es.now)) ++ symbol marks.CloseCurly ∷ [])) (S.told out.old) result (S.told out.new) }
 {
     put_mark(out, Mark::OpenCurly)?;
     put_list(out, es)?;
@@ -267,7 +266,7 @@ fn put_set<S: Sink>(out: &mut S, es: &[Expr]) -> Result<(), Failed>
 /// Writes a function of a list.
 #[cycle(print)]
 fn put_count<S: Sink>(out: &mut S, es: &[Expr]) -> Result<(), Failed>
-    ensures { Writes result (S.written out.old) (S.written out.new) (S.faults out.old) (S.faults out.new) (call marks.Count (listed (trees (map expr_tree es.now)))) }
+    ensures { Prints (call marks.Count (listed (trees (map expr_tree es.now)))) (S.told out.old) result (S.told out.new) }
 {
     put_mark(out, Mark::Count)?;
     put_mark(out, Mark::OpenRound)?;
@@ -278,7 +277,7 @@ fn put_count<S: Sink>(out: &mut S, es: &[Expr]) -> Result<(), Failed>
 /// Writes a branch of a case.
 #[cycle(print)]
 fn put_arm<S: Sink>(out: &mut S, arm: &Branch) -> Result<(), Failed>
-    ensures { Writes result (S.written out.old) (S.written out.new) (S.faults out.old) (S.faults out.new) (around (bare (expr_tree arm.now.condition) lead_is.Free) marks.Colon (bare (expr_tree arm.now.value) lead_is.Free ++ (symbol marks.Semicolon ∷ blank ∷ []))) }
+    ensures { Prints (around (bare (expr_tree arm.now.condition) lead_is.Free) marks.Colon (bare (expr_tree arm.now.value) lead_is.Free ++ (symbol marks.Semicolon ∷ blank ∷ []))) (S.told out.old) result (S.told out.new) }
 {
     put_bare(out, Lead::Free, &arm.condition)?;
     put_operator(out, Mark::Colon)?;
@@ -290,7 +289,7 @@ fn put_arm<S: Sink>(out: &mut S, arm: &Branch) -> Result<(), Failed>
 /// Writes the branches of a case.
 #[cycle(print)]
 fn put_arms<S: Sink>(out: &mut S, items: &[Branch]) -> Result<(), Failed>
-    ensures { Writes result (S.written out.old) (S.written out.new) (S.faults out.old) (S.faults out.new) (branches (arms (map arm_of items.now))) }
+    ensures { Prints (branches (arms (map arm_of items.now))) (S.told out.old) result (S.told out.new) }
 {
     for arm in items {
         put_arm(out, arm)?;
@@ -301,7 +300,7 @@ fn put_arms<S: Sink>(out: &mut S, items: &[Branch]) -> Result<(), Failed>
 /// Writes a case.
 #[cycle(print)]
 fn put_case<S: Sink>(out: &mut S, items: &[Branch]) -> Result<(), Failed>
-    ensures { Writes result (S.written out.old) (S.written out.new) (S.faults out.old) (S.faults out.new) (symbol marks.Case ∷ blank ∷ (branches (arms (map arm_of items.now)) ++ symbol marks.Esac ∷ [])) }
+    ensures { Prints (symbol marks.Case ∷ blank ∷ (branches (arms (map arm_of items.now)) ++ symbol marks.Esac ∷ [])) (S.told out.old) result (S.told out.new) }
 {
     put_mark(out, Mark::Case)?;
     put_blank(out)?;
@@ -313,7 +312,7 @@ fn put_case<S: Sink>(out: &mut S, items: &[Branch]) -> Result<(), Failed>
 #[cycle(print)]
 #[tactic(auto, unfolding(crate::specs::Printing::bare))]
 fn put_bare<S: Sink>(out: &mut S, lead: Lead, e: &Expr) -> Result<(), Failed>
-    ensures { Writes result (S.written out.old) (S.written out.new) (S.faults out.old) (S.faults out.new) (bare (expr_tree e.now) lead) }
+    ensures { Prints (bare (expr_tree e.now) lead) (S.told out.old) result (S.told out.new) }
 {
     match e {
         Expr::Truth(_, true) => put_mark(out, Mark::True),
@@ -344,14 +343,11 @@ fn put_bare<S: Sink>(out: &mut S, lead: Lead, e: &Expr) -> Result<(), Failed>
 /// # Errors
 ///
 /// `Failed` after a fault of the sink; a front of the text was written then.
-#[tactic(auto, using(crate::proofs::Inks::written_known, crate::proofs::Inks::front_known))]
+#[tactic(auto, using(crate::proofs::Inks::inks_written))]
 pub fn print_expr<S: Sink>(e: &Expr, out: &mut S) -> Result<(), Failed>
-    ensures ok { OnOk result (S.written out.new ≡ append_known (S.written out.old) (printed (expr_tree e.now))) }
+    ensures written { Writes (printed (expr_tree e.now)) (S.told out.old) result (S.told out.new) }
     // what is written of an expression that a text spells is a text that spells it again, places aside
-    ensures again { (bytes : List ℕ) → SpellsExpr bytes (expr_tree e.now) → OnOk result (WroteAlike (S.written out.old) (S.written out.new) (expr_tree e.now)) }
-    ensures err { OnErr result (AddsFront (S.written out.old) (S.written out.new) (printed (expr_tree e.now))) }
-    ensures cause { OnErr result (HasRisen (S.faults out.old) (S.faults out.new)) }
-    ensures count { S.faults out.old ≤ S.faults out.new }
+    ensures again { (bytes : List ℕ) → SpellsExpr bytes (expr_tree e.now) → OnOk result (WroteAlike (S.told out.old) (S.told out.new) (expr_tree e.now)) }
 {
     put_bare(out, Lead::Free, e)
 }

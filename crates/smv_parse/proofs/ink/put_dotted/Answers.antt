@@ -1,14 +1,14 @@
-use Rattle.smv_parse.proofs.Inks.{breaks_off, dotted_end, dotted_step, returned, writes_append, writes_as, writes_none}
+use Rattle.smv_parse.proofs.Inks.{stops_off, dotted_end, dotted_step, returned, prints_append, prints_as, prints_none}
 use Rattle.smv_parse.proofs.ink.put_dotted.Goals as goal
 
 pub loop-name-init : goal.loop-name-init
-loop-name-init g c = λ r z n w. w
+loop-name-init g c = λ r z w. w
 
 pub loop-name-preserved : goal.loop-name-preserved
-loop-name-preserved g c = λ r z n w. c.loop-name.invariant r z n (writes_as (dotted_step c.args.names.now c.loop-name.name-index c.name-item.result c.loop-name-test.true c.name-item.is) (writes_append c.in_ok-put_member.ensures w))
+loop-name-preserved g c = λ r z w. c.loop-name.invariant r z (prints_as (dotted_step c.args.names.now c.loop-name.name-index c.name-item.result c.loop-name-test.true c.name-item.is) (prints_append c.in_ok-put_member.ensures w))
 
 pub returns-in_err-put_member : goal.returns-in_err-put_member
-returns-in_err-put_member g c = returned _ c.from_residual.result c.from_residual.ensures.1 (c.loop-name.invariant _ _ _ (writes_as (dotted_step c.args.names.now c.loop-name.name-index c.name-item.result c.loop-name-test.true c.name-item.is) (breaks_off _ c.in_err-put_member.ensures)))
+returns-in_err-put_member g c = returned _ c.from_residual.result c.from_residual.ensures.1 (c.loop-name.invariant _ _ (prints_as (dotted_step c.args.names.now c.loop-name.name-index c.name-item.result c.loop-name-test.true c.name-item.is) (stops_off _ c.in_err-put_member.ensures)))
 
 pub returns : goal.returns
-returns g c = c.loop-name.invariant _ _ _ (writes_as (dotted_end c.args.names.now c.loop-name.name-index c.loop-name-test.false) (writes_none _ _ _))
+returns g c = c.loop-name.invariant _ _ (prints_as (dotted_end c.args.names.now c.loop-name.name-index c.loop-name-test.false) (prints_none _ _))
