@@ -1,6 +1,5 @@
-ghost use Rattle.std.specs.Prelude.{◌≡◌, ◌≤◌, OnOk, OnErr};
-ghost use Rattle.std.specs.Io.KnownBytes.{append_known};
-ghost use Rattle.outside.specs.Told.{HasRisen, AddsFront};
+ghost use Rattle.std.specs.Prelude.{◌≡◌};
+ghost use Rattle.outside.specs.Told.{Writes};
 
 use outside::{Failed, Sink, Text, put_all, put_parts};
 use std::alloc::AllocError;
@@ -70,10 +69,7 @@ impl OptFault {
     ///
     /// `Failed` after a fault of the sink; a front of the text was written then.
     pub fn print_text<S: Sink>(&self, out: &mut S) -> Result<(), Failed>
-        ensures ok { OnOk result (S.written out.new ≡ append_known (S.written out.old) (text_of self.now)) }
-        ensures err { OnErr result (AddsFront (S.written out.old) (S.written out.new) (text_of self.now)) }
-        ensures cause { OnErr result (HasRisen (S.faults out.old) (S.faults out.new)) }
-        ensures count { S.faults out.old ≤ S.faults out.new }
+        ensures { Writes (text_of self.now) (S.told out.old) result (S.told out.new) }
     {
         match self {
             OptFault::Unknown(word) => put_parts(out, &[word.as_slice(), b": unknown option"]),

@@ -1,6 +1,5 @@
-ghost use Rattle.std.specs.Prelude.{◌≡◌, ◌≤◌, ◌++◌, OnOk, OnErr};
-ghost use Rattle.std.specs.Io.KnownBytes.{append_known};
-ghost use Rattle.outside.specs.Told.{HasRisen, AddsFront};
+ghost use Rattle.std.specs.Prelude.{◌≡◌};
+ghost use Rattle.outside.specs.Told.{Writes};
 ghost use Rattle.shell_lang.specs.Fault.{number_of, text_of};
 
 use outside::{Failed, Sink, Text, put_all, put_parts};
@@ -65,10 +64,7 @@ impl LangFault {
     ///
     /// `Failed` after a fault of the sink; a front of the text was written then.
     pub fn print_text<S: Sink>(&self, out: &mut S) -> Result<(), Failed>
-        ensures ok { OnOk result (S.written out.new ≡ append_known (S.written out.old) (text_of self.now)) }
-        ensures err { OnErr result (AddsFront (S.written out.old) (S.written out.new) (text_of self.now)) }
-        ensures cause { OnErr result (HasRisen (S.faults out.old) (S.faults out.new)) }
-        ensures count { S.faults out.old ≤ S.faults out.new }
+        ensures { Writes (text_of self.now) (S.told out.old) result (S.told out.new) }
     {
         match self {
             LangFault::Quote => put_all(out, b"unclosed quote"),
