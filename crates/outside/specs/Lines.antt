@@ -1,5 +1,5 @@
 -- What a read of a line finds, and what it takes.
-use Rattle.std.specs.Prelude.{◌≡◌, ◌≢◌, ◌+◌, ◌≤◌, ℕ, List, [], ◌∷◌, ◌++◌, ◌⊎◌, length, Option, Result, Ok, Err, IfSome, Contains}
+use Rattle.std.specs.Prelude.{◌≡◌, ◌≢◌, ◌+◌, ◌≤◌, ℕ, List, [], ◌∷◌, ◌++◌, ◌⊎◌, codes, length, Option, Result, Ok, Err, IfSome, Contains}
 use Rattle.std.specs.Io.KnownBytes.{prepend_known}
 use Rattle.outside.specs.declared.source.Line.{Line}
 use Rattle.outside.specs.declared.source.Line.TheVariants as line
@@ -38,3 +38,15 @@ HasCause before after _ = before ≤ after
 pub record ReadsLine (limit : ℕ) (old : Input) (result : Result Line LineFault) (new : Input) : Type 0 where
   pub reads : Reads limit old.left result new.left
   pub cause : HasCause old.faults new.faults result
+
+-- the number of a refusal of a line that was not read
+abbrev pub fault_number : LineFault → ℕ
+fault_number ReadFault = 801
+fault_number TooLong = 802
+fault_number (NoMemory e) = 900
+
+-- what users read after the number
+abbrev pub fault_text : LineFault → List ℕ
+fault_text ReadFault = codes "the input failed"
+fault_text TooLong = codes "line longer than 65536 bytes"
+fault_text (NoMemory e) = codes "out of memory"

@@ -1,10 +1,10 @@
 ghost use Rattle.std.specs.Prelude.{◌≡◌, ◌≢◌, ◌≤◌, [], ◌∷◌, IfOk, IfSome, IfNone, IsSome, OnErr};
 ghost use Rattle.std.specs.Io.KnownBytes.{prepend_known};
-ghost use Rattle.outside.specs.Told.{Fills, HasRisen, Input};
-ghost use Rattle.outside.specs.Lines.{ReadsLine};
+ghost use Rattle.outside.specs.Told.{Fills, HasRisen, Input, Writes};
+ghost use Rattle.outside.specs.Lines.{ReadsLine, fault_number, fault_text};
 ghost use Rattle.outside.specs.declared.source.LineFault.TheVariants.{NoMemory};
 
-use crate::{Failed, Text};
+use crate::{Failed, Sink, Text, put_all};
 use std::alloc::{AllocError, Global};
 
 /// Where input comes from.
@@ -47,6 +47,35 @@ impl From<AllocError> for LineFault {
 
     fn from(e: AllocError) -> LineFault {
         LineFault::NoMemory(e)
+    }
+}
+
+impl LineFault {
+    /// The number of the refusal.
+    pub fn number(&self) -> u32
+        ensures { result ≡ fault_number self.now }
+    {
+        match self {
+            LineFault::ReadFault => 801,
+            LineFault::TooLong => 802,
+            LineFault::NoMemory(_) => 900,
+        }
+    }
+
+    /// Writes what the fault says to users, without its number. The limit that it names is that of a
+    /// line of the shell.
+    ///
+    /// # Errors
+    ///
+    /// `Failed` after a fault of the sink; a front of the text was written then.
+    pub fn print_text<S: Sink>(&self, out: &mut S) -> Result<(), Failed>
+        ensures { Writes (fault_text self.now) (S.told out.old) result (S.told out.new) }
+    {
+        match self {
+            LineFault::ReadFault => put_all(out, b"the input failed"),
+            LineFault::TooLong => put_all(out, b"line longer than 65536 bytes"),
+            LineFault::NoMemory(_) => put_all(out, b"out of memory"),
+        }
     }
 }
 

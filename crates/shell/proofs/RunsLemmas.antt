@@ -17,7 +17,8 @@ use Rattle.shell.specs.declared.next.Next.{Next}
 use Rattle.shell.specs.declared.next.Next.TheVariants.{Go, Stop}
 use Rattle.shell.specs.Texts.{output_of, errors_of}
 use Rattle.shell.proofs.TellLemmas.{nothing_added}
-use Rattle.shell.specs.Worlds.{World, Disk, Input, KeepsSession}
+use Rattle.outside.specs.Told.{Disk, Input}
+use Rattle.shell.specs.Worlds.{World, KeepsSession}
 use Rattle.shell.specs.Sessions.{Asked, asked_by, Session, SessionAsked, Does, DoesCommand, Treats, Turns, Runs, ends, breaks, goes_on}
 use Rattle.shell.specs.Written.{Sinks, SinkFailed, Told, ToldAll, WritesAll, WritesFront}
 

@@ -7,7 +7,8 @@ use Rattle.shell.specs.declared.event.Event.TheVariants.{Refused}
 use Rattle.shell.specs.declared.event.Refusal.{Refusal}
 use Rattle.shell.specs.declared.next.Next.{Next}
 use Rattle.shell.specs.Commands.{Command, command_of}
-use Rattle.shell.specs.Worlds.{State, Disk}
+use Rattle.outside.specs.Told.{Disk}
+use Rattle.shell.specs.Worlds.{State}
 use Rattle.shell.specs.ExecuteTrace.{Executes, Loads, LoadsNamed, LoadsFile, Tells, after_event, is_refusal}
 use Rattle.shell.specs.Sessions.{Does, DoesCommand}
 use Rattle.shell.specs.Written.{Sinks, Told}

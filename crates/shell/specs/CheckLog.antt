@@ -8,7 +8,7 @@ use Rattle.sat_log.specs.declared.line.LogLine.{LogLine}
 use Rattle.shell.specs.declared.event.Refusal.TheVariants as refusal
 use Rattle.shell.specs.declared.event.Event.{Event}
 use Rattle.shell.specs.declared.event.Event.TheVariants.{LogAccepted, Refused}
-use Rattle.shell.specs.Worlds.{Disk}
+use Rattle.outside.specs.Told.{Disk}
 use Rattle.shell.specs.FileReads.{ReadsWhole, file_refusal}
 
 -- a log has at most so many bytes

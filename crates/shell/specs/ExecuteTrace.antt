@@ -11,7 +11,8 @@ use Rattle.shell.specs.declared.event.Event.TheVariants.{Executed, Stops, Refuse
 use Rattle.shell.specs.Plain.{IsPlain, names_of}
 use Rattle.shell.specs.TraceTexts.{Section, IsTraceText, first_gap, states_of}
 use Rattle.shell.specs.Replays.{IsTrace, StopsAt}
-use Rattle.shell.specs.Worlds.{Disk, State}
+use Rattle.outside.specs.Told.{Disk}
+use Rattle.shell.specs.Worlds.{State}
 use Rattle.shell.specs.FileReads.{ReadsWhole, file_refusal}
 
 -- a model or a trace has at most so many bytes

@@ -5,11 +5,11 @@ use Rattle.outside.specs.declared.files.FileFault.{FileFault}
 use Rattle.outside.specs.declared.files.FileFault.TheVariants as file_fault
 use Rattle.shell.specs.declared.event.Refusal.{Refusal}
 use Rattle.shell.specs.declared.event.Refusal.TheVariants as refusal
-use Rattle.shell.specs.Worlds.{Disk}
+use Rattle.outside.specs.Told.{Disk}
 
 -- a whole file of at most so many bytes is read, or why it is not
 abbrev pub ReadsWhole : ℕ → List ℕ → Disk → Result (List ℕ) FileFault → Disk → Type 0
-ReadsWhole limit name old r new = ReadsFile limit name old.held old.faults r new.faults × (new.held ≡ old.held)
+ReadsWhole limit name old r new = ReadsFile limit name old r new × (new.held ≡ old.held)
 
 -- the refusal of a file that was not read within this limit
 abbrev pub file_refusal : ℕ → List ℕ → FileFault → Refusal

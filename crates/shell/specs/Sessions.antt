@@ -10,7 +10,8 @@ use Rattle.shell.specs.declared.event.Event.TheVariants.{Refused, Usage}
 use Rattle.shell.specs.declared.next.Next.{Next}
 use Rattle.shell.specs.declared.next.Next.TheVariants.{Go, Stop}
 use Rattle.shell.specs.Commands.{Command, nothing, quit, execute, check_log, unknown, command_of, begins_with}
-use Rattle.shell.specs.Worlds.{Disk, Input, KeepsSession, State, World, fresh}
+use Rattle.outside.specs.Told.{Disk, Input}
+use Rattle.shell.specs.Worlds.{KeepsSession, State, World, fresh}
 use Rattle.shell.specs.ExecuteTrace.{Executes}
 use Rattle.shell.specs.CheckLog.{ChecksLog}
 

@@ -1,27 +1,12 @@
 -- What a session has, keeps and reads: its state, the files and the input.
 use Rattle.std.specs.Prelude.{◌≡◌, ℕ, List, Option, None}
+use Rattle.outside.specs.Told.{Disk, Input}
 use Rattle.smv_tree.specs.Models.{Body}
 
 -- a session: the name of the model's file, and the model that is kept
 pub record State : Type 0 where
   pub input_file : Option (List ℕ)
   pub model : Option (List Body)
-
--- the files: what they hold, if it is told, and how often they failed
-pub record Disk : Type 0 where
-  pub held : Option (List ℕ → Option (List ℕ))
-  pub faults : ℕ
-
-abbrev pub disk_of : Option (List ℕ → Option (List ℕ)) → ℕ → Disk
-disk_of held faults = record { held = held; faults = faults }
-
--- the input: what is left of it, if it is told, and how often it failed
-pub record Input : Type 0 where
-  pub left : Option (List ℕ)
-  pub faults : ℕ
-
-abbrev pub input_of : Option (List ℕ) → ℕ → Input
-input_of left faults = record { left = left; faults = faults }
 
 -- a session, its files and its input
 pub record World : Type 0 where

@@ -1,7 +1,7 @@
 -- What the two sinks gain by the events of a session.
 use Rattle.std.specs.Prelude.{◌≡◌, ◌≢◌, ◌⊎◌, ℕ, List, Option}
 use Rattle.std.specs.Io.KnownBytes.{append_known}
-use Rattle.outside.specs.Told.{HasRisen, AddsFront}
+use Rattle.outside.specs.Told.{HasRisen, AddsFront, Output}
 use Rattle.shell.specs.declared.event.Event.{Event}
 use Rattle.shell.specs.declared.next.Next.{Next}
 use Rattle.shell.specs.declared.next.Next.TheVariants.{Stop}
@@ -22,8 +22,8 @@ pub record Sinks : Type 0 where
   pub out_faults : ℕ
   pub err_faults : ℕ
 
-abbrev pub sinks_of : Option (List ℕ) → Option (List ℕ) → ℕ → ℕ → Sinks
-sinks_of out err out_faults err_faults = record { out = out; err = err; out_faults = out_faults; err_faults = err_faults }
+abbrev pub sinks_of : Output → Output → Sinks
+sinks_of out err = record { out = out.written; err = err.written; out_faults = out.faults; err_faults = err.faults }
 
 -- a sink failed
 abbrev pub SinkFailed : Sinks → Sinks → Type 0

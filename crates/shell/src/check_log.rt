@@ -1,5 +1,4 @@
 ghost use Rattle.shell.specs.CheckLog.{ChecksLog, ChecksText};
-ghost use Rattle.shell.specs.Worlds.{disk_of};
 
 use crate::event::{Event, Refusal};
 use crate::files::read_file;
@@ -26,7 +25,7 @@ fn check(alloc: Global, text: &[u8]) -> Event
 
 /// Checks the log in a file.
 pub(crate) fn check_log<F: Files>(alloc: Global, file: Text, files: &mut F) -> Event
-    ensures { ChecksLog file (disk_of (F.held files.old) (F.faults files.old)) result (disk_of (F.held files.new) (F.faults files.new)) }
+    ensures { ChecksLog file (F.told files.old) result (F.told files.new) }
 {
     match read_file(alloc, LOG_LIMIT, file, files) {
         Ok(text) => check(alloc, text.as_slice()),

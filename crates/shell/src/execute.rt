@@ -1,7 +1,6 @@
 ghost use Rattle.std.specs.Prelude.{◌≡◌, ◌≤◌, length};
 ghost use Rattle.shell.specs.ExecuteTrace.{LoadsFile, ModelOf, Tells};
 ghost use Rattle.shell.specs.SessionViews.{program_of};
-ghost use Rattle.shell.specs.Worlds.{disk_of};
 ghost use Rattle.smv_tree.specs.Models.{bodies};
 
 use crate::event::{Event, Refusal};
@@ -39,7 +38,7 @@ fn model_of(alloc: Global, text: &[u8]) -> Result<Model, Refusal>
 
 /// The model of a file, or why there is none.
 pub(crate) fn load<F: Files>(alloc: Global, file: &Text, files: &mut F) -> Result<Model, Refusal>
-    ensures { LoadsFile file.now (disk_of (F.held files.old) (F.faults files.old)) (program_of result) (disk_of (F.held files.new) (F.faults files.new)) }
+    ensures { LoadsFile file.now (F.told files.old) (program_of result) (F.told files.new) }
 {
     let Ok(name) = file.copy(alloc) else {
         return Err(Refusal::NoMemory);
@@ -52,7 +51,7 @@ pub(crate) fn load<F: Files>(alloc: Global, file: &Text, files: &mut F) -> Resul
 
 /// What is said of a trace's file.
 pub(crate) fn judge_file<F: Files>(alloc: Global, model: &Model, file: Text, files: &mut F) -> Event
-    ensures { Tells (bodies model.now.program) file (disk_of (F.held files.old) (F.faults files.old)) result (disk_of (F.held files.new) (F.faults files.new)) }
+    ensures { Tells (bodies model.now.program) file (F.told files.old) result (F.told files.new) }
 {
     match read_file(alloc, FILE_LIMIT, file, files) {
         Ok(text) => judge(alloc, model, text.as_slice()),

@@ -1,7 +1,6 @@
 ghost use Rattle.std.specs.Prelude.{◌≡◌, IfOk, IfErr, Ok, Err};
 ghost use Rattle.outside.specs.declared.files.FileFault.{FileFault};
 ghost use Rattle.shell.specs.FileReads.{file_refusal, ReadsWhole};
-ghost use Rattle.shell.specs.Worlds.{disk_of};
 
 use crate::event::Refusal;
 use outside::{FileFault, Files, Text};
@@ -26,8 +25,8 @@ pub(crate) fn read_file<F: Files>(
     name: Text,
     files: &mut F,
 ) -> Result<Text, Refusal>
-    ensures whole { IfOk result (λ text. ReadsWhole limit name (disk_of (F.held files.old) (F.faults files.old)) (Ok text) (disk_of (F.held files.new) (F.faults files.new))) }
-    ensures fault { IfErr result (λ r. (fault : FileFault) × ReadsWhole limit name (disk_of (F.held files.old) (F.faults files.old)) (Err fault) (disk_of (F.held files.new) (F.faults files.new)) × (r ≡ file_refusal limit name fault)) }
+    ensures whole { IfOk result (λ text. ReadsWhole limit name (F.told files.old) (Ok text) (F.told files.new)) }
+    ensures fault { IfErr result (λ r. (fault : FileFault) × ReadsWhole limit name (F.told files.old) (Err fault) (F.told files.new) × (r ≡ file_refusal limit name fault)) }
 {
     match files.read_all(alloc, &name, limit) {
         Ok(text) => Ok(text),

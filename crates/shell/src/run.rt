@@ -1,7 +1,7 @@
 ghost use Rattle.std.specs.Prelude.{◌≡◌, ◌≢◌, ◌≤◌, ◌⊎◌, ◌∷◌, [], List, IfOk, None};
 ghost use Rattle.shell.specs.declared.event.Event.{Event};
 ghost use Rattle.shell.specs.declared.next.Next.{Next};
-ghost use Rattle.shell.specs.Worlds.{State, disk_of, input_of, world_of};
+ghost use Rattle.shell.specs.Worlds.{State, world_of};
 ghost use Rattle.shell.specs.Sessions.{asked_by, Opens, Runs, Turns};
 ghost use Rattle.shell.specs.Written.{Told, ToldAll, sinks_of};
 ghost use Rattle.shell.specs.Sessions.{Session as SessionOf};
@@ -38,11 +38,11 @@ fn turn<R: Source, F: Files, O: Sink, E: Sink, L: Ledger>(
     steps: &mut Steps<L>,
 ) -> Next
     ensures turns { (events : List Event) × (next : Next)
-        × Turns count (world_of (state_of session.old) (disk_of (F.held files.old) (F.faults files.old)) (input_of (R.left input.old) (R.faults input.old)))
-        events (world_of (state_of session.new) (disk_of (F.held files.new) (F.faults files.new)) (input_of (R.left input.new) (R.faults input.new))) next
-        × Told events next result (sinks_of (O.written out.old) (E.written err.old) (O.faults out.old) (E.faults err.old)) (sinks_of (O.written out.new) (E.written err.new) (O.faults out.new) (E.faults err.new)) }
-    ensures out_count { O.faults out.old ≤ O.faults out.new }
-    ensures err_count { E.faults err.old ≤ E.faults err.new }
+        × Turns count (world_of (state_of session.old) (F.told files.old) (R.told input.old))
+        events (world_of (state_of session.new) (F.told files.new) (R.told input.new)) next
+        × Told events next result (sinks_of (O.told out.old) (E.told err.old)) (sinks_of (O.told out.new) (E.told err.new)) }
+    ensures out_count { (O.told out.old).faults ≤ (O.told out.new).faults }
+    ensures err_count { (E.told err.old).faults ≤ (E.told err.new).faults }
     ensures last { count ≡ 1000000 → result ≢ Next.Go }
     ensures steps { steps.new ≡ steps.old }
 {
@@ -121,9 +121,9 @@ fn turns<R: Source, F: Files, O: Sink, E: Sink, L: Ledger>(
     steps: &mut Steps<L>,
 ) -> u8
     ensures runs { (events : List Event) × (state : State)
-        × Runs 0 (world_of (state_of session.old) (disk_of (F.held files.old) (F.faults files.old)) (input_of (R.left input.old) (R.faults input.old)))
-        events (world_of state (disk_of (F.held files.new) (F.faults files.new)) (input_of (R.left input.new) (R.faults input.new))) result
-        × ToldAll events result (sinks_of (O.written out.old) (E.written err.old) (O.faults out.old) (E.faults err.old)) (sinks_of (O.written out.new) (E.written err.new) (O.faults out.new) (E.faults err.new)) }
+        × Runs 0 (world_of (state_of session.old) (F.told files.old) (R.told input.old))
+        events (world_of state (F.told files.new) (R.told input.new)) result
+        × ToldAll events result (sinks_of (O.told out.old) (E.told err.old)) (sinks_of (O.told out.new) (E.told err.new)) }
     ensures steps { steps.new ≡ steps.old }
 {
     let mut count = 0;
@@ -139,7 +139,7 @@ fn turns<R: Source, F: Files, O: Sink, E: Sink, L: Ledger>(
 fn end_with<O: Sink, E: Sink>(event: &Event, status: u8, out: &mut O, err: &mut E) -> u8
     requires { status ≢ 4 }
     ensures status { (result ≡ status) ⊎ (result ≡ 4) }
-    ensures told { ToldAll (event.now ∷ []) result (sinks_of (O.written out.old) (E.written err.old) (O.faults out.old) (E.faults err.old)) (sinks_of (O.written out.new) (E.written err.new) (O.faults out.new) (E.faults err.new)) }
+    ensures told { ToldAll (event.now ∷ []) result (sinks_of (O.told out.old) (E.told err.old)) (sinks_of (O.told out.new) (E.told err.new)) }
 {
     match tell(event, out, err) {
         Ok(()) => status,
@@ -158,9 +158,9 @@ fn run_on<R: Source, F: Files, O: Sink, E: Sink, L: Ledger>(
     steps: &mut Steps<L>,
 ) -> u8
     ensures session { (events : List Event) × (state : State)
-        × Opens (option_copied file.entry) (disk_of (F.held files.old) (F.faults files.old)) (input_of (R.left input.old) (R.faults input.old))
-        events (world_of state (disk_of (F.held files.new) (F.faults files.new)) (input_of (R.left input.new) (R.faults input.new))) result
-        × ToldAll events result (sinks_of (O.written out.old) (E.written err.old) (O.faults out.old) (E.faults err.old)) (sinks_of (O.written out.new) (E.written err.new) (O.faults out.new) (E.faults err.new)) }
+        × Opens (option_copied file.entry) (F.told files.old) (R.told input.old)
+        events (world_of state (F.told files.new) (R.told input.new)) result
+        × ToldAll events result (sinks_of (O.told out.old) (E.told err.old)) (sinks_of (O.told out.new) (E.told err.new)) }
     ensures steps { steps.new ≡ steps.old }
 {
     let Ok(mut session) = open(alloc, file) else {
@@ -187,9 +187,9 @@ pub fn run_shell<R: Source, F: Files, O: Sink, E: Sink, L: Ledger>(
 ) -> u8
     // What is written is the text of a session of these words, this input and these files.
     ensures session { (events : List Event) × (state : State)
-        × SessionOf words.now (disk_of (F.held files.old) (F.faults files.old)) (input_of (R.left input.old) (R.faults input.old))
-        events (world_of state (disk_of (F.held files.new) (F.faults files.new)) (input_of (R.left input.new) (R.faults input.new))) result
-        × ToldAll events result (sinks_of (O.written out.old) (E.written err.old) (O.faults out.old) (E.faults err.old)) (sinks_of (O.written out.new) (E.written err.new) (O.faults out.new) (E.faults err.new)) }
+        × SessionOf words.now (F.told files.old) (R.told input.old)
+        events (world_of state (F.told files.new) (R.told input.new)) result
+        × ToldAll events result (sinks_of (O.told out.old) (E.told err.old)) (sinks_of (O.told out.new) (E.told err.new)) }
     ensures steps { steps.new ≡ steps.old }
 {
     match model_file(words) {

@@ -4,7 +4,6 @@ ghost use Rattle.shell.specs.declared.next.Next.{Next};
 ghost use Rattle.shell.specs.ExecuteTrace.{is_refusal, Executes};
 ghost use Rattle.shell.specs.Sessions.{Does};
 ghost use Rattle.shell.specs.SessionViews.{state_of};
-ghost use Rattle.shell.specs.Worlds.{disk_of};
 ghost use Rattle.shell.specs.Written.{sinks_of, Told};
 
 use crate::check_log::check_log;
@@ -36,9 +35,9 @@ fn is_refusal(event: &Event) -> bool
 
 /// Writes the text of an event, and goes on as it says unless a sink failed.
 pub(crate) fn report<O: Sink, E: Sink>(event: &Event, next: Next, out: &mut O, err: &mut E) -> Next
-    ensures told { Told (event.now ∷ []) next result (sinks_of (O.written out.old) (E.written err.old) (O.faults out.old) (E.faults err.old)) (sinks_of (O.written out.new) (E.written err.new) (O.faults out.new) (E.faults err.new)) }
-    ensures out_count { O.faults out.old ≤ O.faults out.new }
-    ensures err_count { E.faults err.old ≤ E.faults err.new }
+    ensures told { Told (event.now ∷ []) next result (sinks_of (O.told out.old) (E.told err.old)) (sinks_of (O.told out.new) (E.told err.new)) }
+    ensures out_count { (O.told out.old).faults ≤ (O.told out.new).faults }
+    ensures err_count { (E.told err.old).faults ≤ (E.told err.new).faults }
 {
     match tell(event, out, err) {
         Ok(()) => next,
@@ -71,7 +70,7 @@ impl Session {
 
     /// Replays the trace of a file, on the model that is kept or else is read.
     fn execute<F: Files>(&mut self, file: Text, files: &mut F) -> Event
-        ensures { Executes (state_of self.old) (disk_of (F.held files.old) (F.faults files.old)) file result (state_of self.new) (disk_of (F.held files.new) (F.faults files.new)) }
+        ensures { Executes (state_of self.old) (F.told files.old) file result (state_of self.new) (F.told files.new) }
     {
         if let Some(model) = &self.model {
             return judge_file(self.alloc, model, file, files);
@@ -102,10 +101,10 @@ impl Session {
         steps: &mut Steps<L>,
     ) -> Next
         ensures does { (events : List Event) × (next : Next)
-            × Does (state_of self.old) (disk_of (F.held files.old) (F.faults files.old)) line.now events (state_of self.new) (disk_of (F.held files.new) (F.faults files.new)) next
-            × Told events next result (sinks_of (O.written out.old) (E.written err.old) (O.faults out.old) (E.faults err.old)) (sinks_of (O.written out.new) (E.written err.new) (O.faults out.new) (E.faults err.new)) }
-        ensures out_count { O.faults out.old ≤ O.faults out.new }
-        ensures err_count { E.faults err.old ≤ E.faults err.new }
+            × Does (state_of self.old) (F.told files.old) line.now events (state_of self.new) (F.told files.new) next
+            × Told events next result (sinks_of (O.told out.old) (E.told err.old)) (sinks_of (O.told out.new) (E.told err.new)) }
+        ensures out_count { (O.told out.old).faults ≤ (O.told out.new).faults }
+        ensures err_count { (E.told err.old).faults ≤ (E.told err.new).faults }
         ensures steps { steps.new ≡ steps.old }
     {
         let _counted = steps;

@@ -1,6 +1,5 @@
 ghost use Rattle.std.specs.Prelude.{◌≡◌, ◌≤◌, ◌⊎◌, ◌∷◌, [], ℕ, List, OnOk, OnErr, codes, decimal, flat_map};
-ghost use Rattle.std.specs.Io.KnownBytes.{append_known};
-ghost use Rattle.outside.specs.Told.{AddsFront, HasRisen};
+ghost use Rattle.outside.specs.Told.{HasRisen, Writes};
 ghost use Rattle.shell.specs.Texts.{event_text, is_output, joined, log_fault_text, place_of, refusal_text, section_word, parse_fault_text};
 ghost use Rattle.shell.specs.Pieces.{column_of, fault_place, first_number, line_of, second_number, third_number};
 ghost use Rattle.smv_parse.specs.Faults.{place_of as fault_at};
@@ -290,10 +289,7 @@ fn is_output(event: &Event) -> bool
 
 /// Writes the text of an event to the sink that is given.
 fn write<S: Sink>(event: &Event, out: &mut S) -> Result<(), Failed>
-    ensures ok { OnOk result (S.written out.new ≡ append_known (S.written out.old) (event_text event.now)) }
-    ensures err { OnErr result (AddsFront (S.written out.old) (S.written out.new) (event_text event.now)) }
-    ensures cause { OnErr result (HasRisen (S.faults out.old) (S.faults out.new)) }
-    ensures count { S.faults out.old ≤ S.faults out.new }
+    ensures { Writes (event_text event.now) (S.told out.old) result (S.told out.new) }
 {
     let (first, second, third) = numbers(event);
     let mut first_digits = Buffer::new();
@@ -315,11 +311,11 @@ fn write<S: Sink>(event: &Event, out: &mut S) -> Result<(), Failed>
 /// `Failed` after a fault of the sink; a front of the text was written then.
 #[tactic(auto, using(crate::proofs::TellLemmas::told_out, crate::proofs::TellLemmas::told_err, crate::proofs::TellLemmas::broken_out, crate::proofs::TellLemmas::broken_err))]
 pub(crate) fn tell<O: Sink, E: Sink>(event: &Event, out: &mut O, err: &mut E) -> Result<(), Failed>
-    ensures ok { OnOk result (WritesAll (event.now ∷ []) (O.written out.old) (O.written out.new) (E.written err.old) (E.written err.new)) }
-    ensures broken { OnErr result (WritesFront (event.now ∷ []) (O.written out.old) (O.written out.new) (E.written err.old) (E.written err.new)) }
-    ensures cause { OnErr result ((HasRisen (O.faults out.old) (O.faults out.new)) ⊎ (HasRisen (E.faults err.old) (E.faults err.new))) }
-    ensures out_count { O.faults out.old ≤ O.faults out.new }
-    ensures err_count { E.faults err.old ≤ E.faults err.new }
+    ensures ok { OnOk result (WritesAll (event.now ∷ []) (O.told out.old).written (O.told out.new).written (E.told err.old).written (E.told err.new).written) }
+    ensures broken { OnErr result (WritesFront (event.now ∷ []) (O.told out.old).written (O.told out.new).written (E.told err.old).written (E.told err.new).written) }
+    ensures cause { OnErr result ((HasRisen (O.told out.old).faults (O.told out.new).faults) ⊎ (HasRisen (E.told err.old).faults (E.told err.new).faults)) }
+    ensures out_count { (O.told out.old).faults ≤ (O.told out.new).faults }
+    ensures err_count { (E.told err.old).faults ≤ (E.told err.new).faults }
 {
     if is_output(event) {
         write(event, out)

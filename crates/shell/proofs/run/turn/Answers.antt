@@ -11,5 +11,5 @@ returns-in-Ok-End-clause-turns g c = (
   [],
   Stop 0,
   (Ok line.End, rw c.in-Ok-End.field-0-is at c.in-Ok-End.ensures.reads, c.in-Ok-End.ensures.cause, (refl, (refl, refl), refl)),
-  nothing_told (Stop 0) (sinks_of (g.O.Sink.written c.args.out.now) (g.E.Sink.written c.args.err.now) (g.O.Sink.faults c.args.out.now) (g.E.Sink.faults c.args.err.now)),
+  nothing_told (Stop 0) (sinks_of (g.O.Sink.told c.args.out.now) (g.E.Sink.told c.args.err.now)),
 )
