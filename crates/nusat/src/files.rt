@@ -1,6 +1,7 @@
-ghost use Rattle.std.specs.Prelude.{◌≡◌, None, []};
+ghost use Rattle.std.specs.Prelude.{◌≡◌, []};
 ghost use Rattle.outside.specs.Told.{HasRisen};
 ghost use Rattle.outside.specs.Disk.{ReadsFile};
+ghost use Rattle.nusat.specs.Untold.{untold};
 
 use crate::retry::{read_some, write_some};
 use outside::{Failed, FileFault, Files, Text};
@@ -44,9 +45,7 @@ impl<R: rt::Files + Drop> SystemFiles<R> {
 }
 
 impl<R: rt::Files + Drop> Files for SystemFiles<R> {
-    ghost held = { λ _. None };
-
-    ghost faults = { λ s. s };
+    ghost told = { λ s. untold s };
 
     fn read_all(&mut self, alloc: Global, name: &Text, limit: usize) -> Result<Text, FileFault> {
         let read = read_file(&self.system, alloc, name.as_slice(), limit);
@@ -73,7 +72,7 @@ fn read_file<R: rt::Files>(
     name: &[u8],
     limit: usize,
 ) -> Result<Text, FileFault>
-    ensures { ReadsFile limit name.now None 0 result 1 }
+    ensures { ReadsFile limit name.now (untold 0) result (untold 1) }
 {
     let Ok(path) = str::from_utf8(name) else {
         return Err(FileFault::Failed);
@@ -88,7 +87,7 @@ fn read_file<R: rt::Files>(
 
 /// Reads to the end, and no further than the limit and one byte.
 fn read_up_to<R: Read>(file: &mut R, alloc: Global, limit: usize) -> Result<Text, FileFault>
-    ensures { ReadsFile limit [] None 0 result 1 }
+    ensures { ReadsFile limit [] (untold 0) result (untold 1) }
 {
     let mut bytes = Text::new(alloc);
     let mut piece = [0u8; PIECE];

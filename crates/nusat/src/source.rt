@@ -44,9 +44,7 @@ impl<R: Read + Drop> StreamSource<R> {
 impl<R: Read + Drop> Source for StreamSource<R> {
     ghost use Rattle.std.specs.Prelude.{None};
 
-    ghost left = { λ _. None };
-
-    ghost faults = { λ s. s };
+    ghost told = { λ s. record { left = None; faults = s } };
 
     fn read(&mut self, buf: &mut [u8]) -> Result<usize, Failed> {
         match read_some(&mut self.reader, buf) {
