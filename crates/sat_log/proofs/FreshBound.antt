@@ -11,22 +11,12 @@ use Rattle.sat_log.specs.Clause.{Among, IsWithin, HasDistinctVariables, AreLiter
 use Rattle.sat_log.specs.Checking.{is_set, IsUpTo, AreUpTo}
 use Rattle.sat_log.specs.Accepted.{hinted, clauses, IsOfKind, AreLines, IsLog}
 use Rattle.sat_log.specs.Learned.{IsFresh, IsFreshOfKind, AllFresh, learned, conflicts}
-use Rattle.sat_log.proofs.Decided.{literal_of, among_from_set, set_from_among, unset_from}
+use Rattle.sat_log.proofs.Decided.{among_from_set, set_from_among, unset_from}
 use Rattle.sat_log.proofs.Implied.{clauses-append}
+use Rattle.sat_log.proofs.LiteralLemmas.{literal_of, All-among, All-from_among}
 use Rattle.sat_log.specs.declared.line.LineKind.{LineKind}
 use Rattle.sat_log.specs.declared.line.LineKind.TheVariants.{Original, Conflict, Final}
 use Rattle.sat_log.specs.declared.line.LogLine.{LogLine}
-
--- What holds of each literal of a clause.
-
-all_from : (P : Literal → Type 0) (c : List Literal) → ((l : Literal) → Among c l → P l) → AllByRecursion P c
-all_from P [] each = tt
-all_from P (l ∷ c) each = (each l (inl refl), all_from P c (λ k m. each k (inr m)))
-
-among_all : (P : Literal → Type 0) (c : List Literal) (l : Literal) → AllByRecursion P c → Among c l → P l
-among_all P [] l h m = absurd m
-among_all P (x ∷ c) l h (inl e) = subst P e h.0
-among_all P (x ∷ c) l h (inr m) = among_all P c l h.1 m
 
 -- A variable's choice in a clause: absent, positive or negative.
 
@@ -69,8 +59,8 @@ one_sign (x ∷ c) v d (inl e) (inl e') =
     let both : literal_of v true ≡ literal_of v false = sym e ∙ e' in
     let signs : true ≡ false = ap (λ (l : Literal). l.negative) both in
     absurd cc
-one_sign (x ∷ c) v d (inl e) (inr m') = among_all (λ k. ¬ (k.var ≡ x.var)) c (literal_of v false) d.0 m' (sym (ap (λ (l : Literal). l.var) e))
-one_sign (x ∷ c) v d (inr m) (inl e') = among_all (λ k. ¬ (k.var ≡ x.var)) c (literal_of v true) d.0 m (sym (ap (λ (l : Literal). l.var) e'))
+one_sign (x ∷ c) v d (inl e) (inr m') = All-among (λ k. ¬ (k.var ≡ x.var)) c (literal_of v false) d.0 m' (sym (ap (λ (l : Literal). l.var) e))
+one_sign (x ∷ c) v d (inr m) (inl e') = All-among (λ k. ¬ (k.var ≡ x.var)) c (literal_of v true) d.0 m (sym (ap (λ (l : Literal). l.var) e'))
 one_sign (x ∷ c) v d (inr m) (inr m') = one_sign c v d.1 m m'
 
 same_choice_among : (c d : List Literal) (v : ℕ) (s : Bool) → HasDistinctVariables c → choice c v ≡ choice d v → Among c (literal_of v s) → Among d (literal_of v s)
@@ -113,8 +103,8 @@ IsChoice n c = HasDistinctVariables c × AllByRecursion (λ l. (1 ≤ l.var) × 
 
 same_code_within : (c d : List Literal) (n : ℕ) → IsChoice n c → code c n ≡ code d n → IsWithin c d
 same_code_within c d n h e =
-    all_from (Among d) c (λ l m. (
-    let range = among_all (λ k. (1 ≤ k.var) × (k.var ≤ n)) c l h.1 m in
+    All-from_among (Among d) c (λ l m. (
+    let range = All-among (λ k. (1 ≤ k.var) × (k.var ≤ n)) c l h.1 m in
     same_choice_among c d l.var l.negative h.0 (same_choices c d n l.var e range.0 range.1) m
     ))
 

@@ -1,3 +1,5 @@
+pub mod ListLemmas
+pub mod LiteralLemmas
 pub mod Implied
 pub mod NeededFresh
 pub mod FreshBound

@@ -1,17 +1,13 @@
 -- Numbers as words: the decimal texts, and no others.
-use Rattle.std.proofs.Common.{◌≡◌, ◌≢◌, ℕ, zero, suc, not, rules, tests, ◌+◌, ◌-◌, ◌*◌, ◌/◌, ◌<◌, ◌≤◌, ◌^◌, Bool, true, false, cond, eqb, ltb, ◌&&◌, ◌⊎◌, inl, inr, List, [], ◌∷◌, length, get_or, take, refl, ap, sym, subst, ◌∙◌, arith, decimal}
+use Rattle.std.proofs.Common.{◌≡◌, ◌≢◌, ℕ, zero, suc, not, ◌+◌, ◌-◌, ◌*◌, ◌/◌, ◌<◌, ◌≤◌, ◌^◌, Bool, true, false, cond, eqb, ltb, ◌&&◌, ◌⊎◌, inl, inr, List, [], ◌∷◌, length, get_or, take, refl, ap, sym, subst, ◌∙◌, arith, decimal}
 use Rattle.std.specs.Prelude.{Option, Some, None, IfSome, IfNone}
 use Rattle.std.specs.Char.{digit_value}
 use Rattle.std.specs.Str.Parse.{AllDigits, IsNumeral, digits_value}
 use Rattle.std.proofs.lemmas.Int.Digits.{digits_value_more}
 use Rattle.std.proofs.lemmas.Fmt.{decimal_is_IsNumeral, decimal-digits_value, first_decimal, decimal_digit}
 use Rattle.std.proofs.lemmas.Str.Parse.{IsNumeralModel, numerals_by_value, tells_digits, digits_value-take-le}
-use Rattle.std.proofs.lemmas.Bool.{false≢true, eqb-true, eq-eqb, ltb-true, ne_eqb, cases_lt}
+use Rattle.std.proofs.lemmas.Bool.{false≢true, eqb-true, eq-eqb, ltb-true, ne_eqb, cases_lt, lt-ltb, and_parts}
 use Rattle.sat_log.specs.Reading.{same_bytes, is_plain, number_of}
-
-and_true : (a b : Bool) → a && b ≡ true → (a ≡ true) × (b ≡ true)
-and_true true b e = (refl, e)
-and_true false b e = absurd (false≢true e)
 
 pub same_bytes_refl : (bs : List ℕ) → same_bytes bs bs ≡ true
 same_bytes_refl [] = refl
@@ -22,7 +18,7 @@ same_bytes_same [] [] e = refl
 same_bytes_same [] (c ∷ cs) e = absurd (false≢true e)
 same_bytes_same (b ∷ bs) [] e = absurd (false≢true e)
 same_bytes_same (b ∷ bs) (c ∷ cs) e =
-    let both = and_true (eqb b c) (same_bytes bs cs) e in
+    let both = and_parts (eqb b c) (same_bytes bs cs) e in
     let first : b ≡ c = eqb-true b c both.0 in
     let rest : bs ≡ cs = same_bytes_same bs cs both.1 in
     cc
@@ -34,10 +30,7 @@ number_of-decimal n h =
     let value : digits_value 10 (decimal n) ≡ n = (decimal_is_IsNumeral n big).1 in
     ap (λ v. cond (same_bytes (decimal v) (decimal n) && ltb v (2 ^ 63)) (Some v) None) value
     ∙ ap (λ b. cond (b && ltb n (2 ^ 63)) (Some n) None) (same_bytes_refl (decimal n))
-    ∙ ap (λ b. cond b (Some n) None) (lt_ltb n (2 ^ 63) h)
-  where
-    lt_ltb : (a b : ℕ) → a < b → ltb a b ≡ true
-    lt_ltb a b h = search (rules, tests)
+    ∙ ap (λ b. cond b (Some n) None) (lt-ltb n (2 ^ 63) h)
 
 number_if-sound : (a b : Bool) (m n : ℕ) → cond (a && b) (Some m) None ≡ Some n → (a ≡ true) × (b ≡ true) × (m ≡ n)
 number_if-sound true true m n e = (refl, refl, cc)

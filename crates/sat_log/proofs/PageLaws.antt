@@ -2,7 +2,7 @@
 use Rattle.std.proofs.Common.{◌≡◌, ◌≢◌, ℕ, ◌+◌, ◌-◌, ◌<◌, ◌≤◌, ◌^◌, ◌⊎◌, inl, inr, Bool, true, false, not, cond, ◌&&◌, eqb, List, [], ◌∷◌, ◌++◌, length, get_or, map, refl, ap, sym, subst, ◌∙◌, append_assoc, length-append, arith, decimal}
 use Rattle.std.specs.Prelude.{Option, Some, None, Result, Ok, Err, is_some, codes, slice_get}
 use Rattle.std.specs.List.{AllByRecursion}
-use Rattle.std.proofs.lemmas.Bool.{false≢true, eqb-true, eq-eqb, ne_eqb, cases_eq}
+use Rattle.std.proofs.lemmas.Bool.{false≢true, eqb-true, eq-eqb, ne_eqb, cases_eq, and_parts}
 use Rattle.std.proofs.lemmas.List.{append-nil}
 use Rattle.sat_log.specs.Literal.{Literal, negated, IsVariable}
 use Rattle.sat_log.specs.Clause.{AreLiterals}
@@ -311,12 +311,8 @@ is_header-sound [] e = absurd (false≢true e)
 is_header-sound (first ∷ []) e = absurd (false≢true e)
 is_header-sound (first ∷ second ∷ third ∷ ws) e = absurd (false≢true e)
 is_header-sound (first ∷ second ∷ []) e =
-    let both = and_true (same_bytes first (codes "log")) (same_bytes second (codes "1")) e in
+    let both = and_parts (same_bytes first (codes "log")) (same_bytes second (codes "1")) e in
     ap (λ v. v ∷ second ∷ []) (same_bytes_same first (codes "log") both.0) ∙ ap (λ v. codes "log" ∷ v ∷ []) (same_bytes_same second (codes "1") both.1)
-  where
-    and_true : (a b : Bool) → a && b ≡ true → (a ≡ true) × (b ≡ true)
-    and_true true b e = (refl, e)
-    and_true false b e = absurd (false≢true e)
 
 -- the page of a text that is read is that of the log
 pub read_page-sound : (p : List (List (List ℕ))) (log : List LogLine) → read_page p ≡ Ok log → p ≡ log_page log

@@ -3,7 +3,7 @@ use Rattle.std.proofs.Common.{◌≡◌, ℕ, ◌+◌, ◌<◌, ◌≤◌, ◌�
 use Rattle.std.specs.Prelude.{Some, None, Result, Ok, Err}
 use Rattle.sat_log.specs.Page.{words, words_after, lines, page}
 use Rattle.sat_log.specs.Reading.{piece_len, same_bytes, items, literal_of, hints_of, whole_line, after_literals, kind_of, after_letter, line_of, is_header, end_of, end_or, at_end, then_read, with_words, read_rest, read_page}
-use Rattle.std.proofs.lemmas.Bool.{cases_lt}
+use Rattle.std.proofs.lemmas.Bool.{cases_lt, lt-ltb, le-ltb}
 use Rattle.sat_log.specs.Literal.{Literal}
 use Rattle.sat_log.specs.Answers.{IsAnswer, IsLogAnswer}
 use Rattle.sat_log.specs.declared.line.LineKind.{LineKind}
@@ -69,12 +69,6 @@ step_end log text line at next count r e h piece len place end =
     e ∙ read_step log text line at next h piece len place
     ∙ ap (λ o. end_or o (λ n. at_end log n (map words (lines (drop next text)))) (then_read (with_words log (line_of (length log + 2) (length log + 1) (words line))) (λ longer. read_rest longer (map words (lines (drop next text)))))) end
 
-lt_ltb : (a b : ℕ) → a < b → ltb a b ≡ true
-lt_ltb a b h = search (rules, tests)
-
-ge_ltb : (a b : ℕ) → b ≤ a → ltb a b ≡ false
-ge_ltb a b h = search (rules, tests)
-
 -- the answer at the last line, whether or not more stands behind it
 pub end_answer : (log : List LogLine) (text : List ℕ) (next count : ℕ) (more : Bool) (x : Result (List LogLine) LogFault) (r : Result (List LogLine) LogFault) → r ≡ at_end log count (map words (lines (drop next text))) → more ≡ ltb next (length text) → (more ≡ false → IsAnswer x (at_end log count [])) → ((line : List (List ℕ)) (rest : List (List (List ℕ))) → more ≡ true → IsAnswer x (at_end log count (line ∷ rest))) → IsAnswer x r
 end_answer log text next count more x r e test end further = by_place (cases_lt next (length text))
@@ -82,9 +76,9 @@ end_answer log text next count more x r e test end further = by_place (cases_lt 
     by_place : (next < length text) ⊎ (length text ≤ next) → IsAnswer x r
     by_place (inl inside) =
         let there = lines_there text next inside in
-        subst (IsAnswer x) (sym (e ∙ ap (λ ls. at_end log count (map words ls)) there.2)) (further (words there.0) (map words there.1) (test ∙ lt_ltb next (length text) inside))
+        subst (IsAnswer x) (sym (e ∙ ap (λ ls. at_end log count (map words ls)) there.2)) (further (words there.0) (map words there.1) (test ∙ lt-ltb next (length text) inside))
     by_place (inr past) =
-        subst (IsAnswer x) (sym (e ∙ ap (λ t. at_end log count (map words (lines t))) (drop_end text next past))) (end (test ∙ ge_ltb next (length text) past))
+        subst (IsAnswer x) (sym (e ∙ ap (λ t. at_end log count (map words (lines t))) (drop_end text next past))) (end (test ∙ le-ltb next (length text) past))
 
 -- the hints of a line don't reach to its end
 pub behind_more : (n : ℕ) (kind : LineKind) (rest rest' : List ℕ) (lits : List Literal) (taken : ℕ) (hints : List ℕ) (taken' : ℕ) → items literal_of n (words_after rest) ≡ Ok (lits, words_after (drop taken rest)) → rest' ≡ drop taken rest → hints_of n kind (words_after rest') ≡ Ok (hints, words_after (drop taken' rest')) → taken' < length rest' → after_letter n (Some kind) (words_after rest) ≡ Err (BadNumber n)
