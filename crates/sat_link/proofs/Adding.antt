@@ -4,6 +4,7 @@ use Rattle.std.specs.Prelude.{option_to_list}
 use Rattle.std.specs.List.{AllByRecursion}
 use Rattle.std.proofs.lemmas.List.{append-nil, drop_more}
 use Rattle.sat_log.specs.Literal.{Literal}
+use Rattle.sat_log.proofs.ListLemmas.{All-append}
 use Rattle.sat_log.specs.Accepted.{given, originals}
 use Rattle.sat_log.specs.Kept.{original}
 use Rattle.sat_log.specs.declared.line.LineKind.{LineKind}
@@ -33,15 +34,11 @@ next_added log new start cs k first l e before =
 pub AddsOriginals-refl : (log new : List LogLine) → new ≡ log → AddsOriginals log new
 AddsOriginals-refl log new e = record { added = []; longer = e ∙ sym (append-nil log); all_originals = tt }
 
-all_append : (P : LogLine → Type 0) (xs ys : List LogLine) → AllByRecursion P xs → AllByRecursion P ys → AllByRecursion P (xs ++ ys)
-all_append P [] ys h k = k
-all_append P (x ∷ xs) ys h k = (h.0, all_append P xs ys h.1 k)
-
 pub AddsOriginals-trans : (a b c : List LogLine) → AddsOriginals a b → AddsOriginals b c → AddsOriginals a c
 AddsOriginals-trans a b c first second = record {
   added = first.added ++ second.added;
   longer = second.longer ∙ ap (λ ls. ls ++ second.added) first.longer ∙ append_assoc a first.added second.added;
-  all_originals = all_append (λ line. line.kind ≡ Original) first.added second.added first.all_originals second.all_originals;
+  all_originals = All-append (λ line. line.kind ≡ Original) first.added second.added first.all_originals second.all_originals;
 }
 
 pub AddsOriginals-push : (log new : List LogLine) (c : List Literal) → new ≡ log ++ original c ∷ [] → AddsOriginals log new

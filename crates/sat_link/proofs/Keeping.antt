@@ -13,7 +13,8 @@ use Rattle.sat_core.specs.Assignment.{assignment}
 use Rattle.sat_link.specs.Encoding.{clauses_of, clauses_from, definitions}
 use Rattle.sat_link.specs.Definitional.{IsDefinitional}
 use Rattle.sat_link.specs.Contents.{KeepsClauses, last_clauses}
-use Rattle.sat_link.proofs.Defining.{definitional, Satisfies-parts}
+use Rattle.sat_log.proofs.LiteralLemmas.{Satisfies-parts}
+use Rattle.sat_link.proofs.Defining.{definitional}
 
 -- The clauses of more nodes.
 
