@@ -1,10 +1,8 @@
 -- Laws of what an object tells.
-use Rattle.std.proofs.Common.{◌≡◌, ◌≢◌, ◌+◌, ◌≤◌, ℕ, List, [], ◌∷◌, ◌++◌, take, drop, length, refl, ap, sym, ◌∙◌, append_assoc, arith, length-append, ◌<◌, get_or}
+use Rattle.std.proofs.Common.{◌≡◌, ◌≢◌, ◌+◌, ◌≤◌, ℕ, List, [], ◌∷◌, ◌++◌, take, drop, length, refl, ap, sym, ◌∙◌, append_assoc, arith, length-append}
 use Rattle.std.specs.Prelude.{Option, Some, None}
 use Rattle.std.specs.Io.KnownBytes.{append_known, prepend_known}
-use Rattle.std.specs.Prelude.{flat_map}
-use Rattle.std.proofs.lemmas.Grind.{common_steps, flat_map-append}
-use Rattle.std.proofs.lemmas.List.{take_more, append-nil}
+use Rattle.std.proofs.lemmas.Grind.{common_steps}
 use Rattle.std.proofs.Math.Seq.{take-add}
 use Rattle.std.proofs.lemmas.List.{take-append-drop}
 use Rattle.outside.specs.Told.{AddsFront}
@@ -41,28 +39,3 @@ taken_past before mid after line b limit free other full e d =
 pub taken_front : (before mid after : Option (List ℕ)) (line : List ℕ) (b limit : ℕ) → IsOneLine line → b ≢ 10 → length line ≤ limit → before ≡ prepend_known line mid → mid ≡ prepend_known (b ∷ []) after → TakesFront (limit + 1) before after
 taken_front before mid after line b limit free other full e d =
     (line ++ b ∷ [], one_line_more line b free other, omega (arith, length-append line (b ∷ [])), e ∙ (ap (prepend_known line) d ∙ prepend_known-twice after line (b ∷ [])))
-
--- the bytes of the parts up to one more place
-parts_more : {A : Type 0} (f : A → List ℕ) (parts : List A) (i : ℕ) (d : A) → i < length parts → flat_map f (take (i + 1) parts) ≡ flat_map f (take i parts) ++ f (get_or parts i d)
-parts_more f parts i d h =
-    ap (flat_map f) (take_more parts i d h) ∙ (flat_map-append f (take i parts) (get_or parts i d ∷ []) ∙ ap (λ x. flat_map f (take i parts) ++ x) (append-nil (f (get_or parts i d))))
-
--- the parts so far and the next one are the parts up to there
-pub part_written : {A : Type 0} (f : A → List ℕ) (old mid new : Option (List ℕ)) (parts : List A) (i : ℕ) (d : A) → i < length parts → mid ≡ append_known old (flat_map f (take i parts)) → new ≡ append_known mid (f (get_or parts i d)) → new ≡ append_known old (flat_map f (take (i + 1) parts))
-part_written f old mid new parts i d h e g =
-    g ∙ (ap (λ m. append_known m (f (get_or parts i d))) e ∙ (append_known-twice old (flat_map f (take i parts)) (f (get_or parts i d)) ∙ ap (append_known old) (sym (parts_more f parts i d h))))
-
--- the bytes of all parts from those up to one more place
-parts_split : {A : Type 0} (f : A → List ℕ) (parts : List A) (i : ℕ) (d : A) → i < length parts → flat_map f parts ≡ flat_map f (take i parts) ++ (f (get_or parts i d) ++ flat_map f (drop (i + 1) parts))
-parts_split f parts i d h =
-    ap (flat_map f) (sym (take-append-drop (i + 1) parts)) ∙ (flat_map-append f (take (i + 1) parts) (drop (i + 1) parts) ∙ (ap (λ x. x ++ flat_map f (drop (i + 1) parts)) (parts_more f parts i d h) ∙ append_assoc (flat_map f (take i parts)) (f (get_or parts i d)) (flat_map f (drop (i + 1) parts))))
-
--- a front of the next part was written behind the parts so far
-pub part_broken : {A : Type 0} (f : A → List ℕ) (old mid new : Option (List ℕ)) (parts : List A) (i : ℕ) (d : A) → i < length parts → mid ≡ append_known old (flat_map f (take i parts)) → AddsFront mid new (f (get_or parts i d)) → AddsFront old new (flat_map f parts)
-part_broken f old mid new parts i d h e (front, rest, s, w) =
-    let done = flat_map f (take i parts) in
-    let others = flat_map f (drop (i + 1) parts) in
-    (done ++ front, rest ++ others, parts_split f parts i d h ∙ (ap (λ x. done ++ (x ++ others)) s ∙ regroup done front rest others), w ∙ (ap (λ m. append_known m front) e ∙ append_known-twice old done front))
-  where
-    regroup : (a b c e : List ℕ) → a ++ ((b ++ c) ++ e) ≡ (a ++ b) ++ (c ++ e)
-    regroup a b c e = simp append_assoc

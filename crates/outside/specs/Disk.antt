@@ -2,7 +2,7 @@
 use Rattle.std.specs.Prelude.{◌≡◌, ◌≢◌, ◌+◌, ◌<◌, ◌≤◌, ℕ, List, ◌++◌, ◌⊎◌, length, Option, Some, None, Result, Ok, Err, ⊤}
 use Rattle.outside.specs.declared.files.FileFault.{FileFault}
 use Rattle.outside.specs.declared.files.FileFault.TheVariants as fault
-use Rattle.outside.specs.Told.{HasRisen}
+use Rattle.outside.specs.Told.{Disk, HasRisen}
 
 -- what each name holds
 abbrev pub Held : Type 0
@@ -23,12 +23,12 @@ abbrev pub IsLonger : ℕ → Option (List ℕ) → Type 0
 IsLonger limit file = (bytes : List ℕ) × (file ≡ Some bytes) × (limit < length bytes)
 
 -- what a read of a whole file of at most so many bytes answers
-abbrev pub ReadsFile : ℕ → List ℕ → Option (List ℕ → Option (List ℕ)) → ℕ → Result (List ℕ) FileFault → ℕ → Type 0
-ReadsFile limit name held before (Ok bytes) after = IfTold held name (λ file. file ≡ Some bytes) × (length bytes ≤ limit) × (before ≤ after)
-ReadsFile limit name held before (Err fault.NotThere) after = Refuses held name before after (λ file. file ≡ None)
-ReadsFile limit name held before (Err (fault.TooLong n)) after = Refuses held name before after (IsLonger limit) × (n ≡ limit + 1)
-ReadsFile limit name held before (Err fault.Failed) after = HasRisen before after
-ReadsFile limit name held before (Err (fault.NoMemory e)) after = before ≤ after
+abbrev pub ReadsFile : ℕ → List ℕ → Disk → Result (List ℕ) FileFault → Disk → Type 0
+ReadsFile limit name old (Ok bytes) new = IfTold old.held name (λ file. file ≡ Some bytes) × (length bytes ≤ limit) × (old.faults ≤ new.faults)
+ReadsFile limit name old (Err fault.NotThere) new = Refuses old.held name old.faults new.faults (λ file. file ≡ None)
+ReadsFile limit name old (Err (fault.TooLong n)) new = Refuses old.held name old.faults new.faults (IsLonger limit) × (n ≡ limit + 1)
+ReadsFile limit name old (Err fault.Failed) new = HasRisen old.faults new.faults
+ReadsFile limit name old (Err (fault.NoMemory e)) new = old.faults ≤ new.faults
 
 -- each file but this one holds what it held
 abbrev pub KeepsOthers : List ℕ → (List ℕ → Option (List ℕ)) → (List ℕ → Option (List ℕ)) → Type 0
@@ -46,9 +46,9 @@ BreaksOff name bytes (Some old) new = (held : List ℕ → Option (List ℕ)) ×
     × ((held name ≡ old name) ⊎ ((front : List ℕ) × (rest : List ℕ) × (bytes ≡ front ++ rest) × (held name ≡ Some front)))
 
 -- what a write of a whole file answers and leaves
-abbrev pub WritesFile : List ℕ → List ℕ → Option (List ℕ → Option (List ℕ)) → ℕ → Result (Unit {0}) FileFault → Option (List ℕ → Option (List ℕ)) → ℕ → Type 0
-WritesFile name bytes old before (Ok u) new after = Stores name bytes old new × (before ≤ after)
-WritesFile name bytes old before (Err fault.Failed) new after = BreaksOff name bytes old new × HasRisen before after
-WritesFile name bytes old before (Err (fault.NoMemory e)) new after = BreaksOff name bytes old new × (before ≤ after)
-WritesFile name bytes old before (Err fault.NotThere) new after = ⊥
-WritesFile name bytes old before (Err (fault.TooLong n)) new after = ⊥
+abbrev pub WritesFile : List ℕ → List ℕ → Disk → Result (Unit {0}) FileFault → Disk → Type 0
+WritesFile name bytes old (Ok u) new = Stores name bytes old.held new.held × (old.faults ≤ new.faults)
+WritesFile name bytes old (Err fault.Failed) new = BreaksOff name bytes old.held new.held × HasRisen old.faults new.faults
+WritesFile name bytes old (Err (fault.NoMemory e)) new = BreaksOff name bytes old.held new.held × (old.faults ≤ new.faults)
+WritesFile name bytes old (Err fault.NotThere) new = ⊥
+WritesFile name bytes old (Err (fault.TooLong n)) new = ⊥

@@ -5,7 +5,7 @@ use Rattle.outside.specs.declared.source.Line.{Line}
 use Rattle.outside.specs.declared.source.Line.TheVariants as line
 use Rattle.outside.specs.declared.source.LineFault.{LineFault}
 use Rattle.outside.specs.declared.source.LineFault.TheVariants.{ReadFault, TooLong, NoMemory}
-use Rattle.outside.specs.Told.{HasRisen}
+use Rattle.outside.specs.Told.{HasRisen, Input}
 
 -- no line feed stands in the text
 abbrev pub IsOneLine : List ℕ → Type 0
@@ -33,3 +33,8 @@ Reads limit before (Err (NoMemory e)) after = TakesFront (limit + 1) before afte
 abbrev pub HasCause : ℕ → ℕ → Result Line LineFault → Type 0
 HasCause before after (Err ReadFault) = HasRisen before after
 HasCause before after _ = before ≤ after
+
+-- what a read of a line of at most so many bytes answers and leaves, and why it failed
+pub record ReadsLine (limit : ℕ) (old : Input) (result : Result Line LineFault) (new : Input) : Type 0 where
+  pub reads : Reads limit old.left result new.left
+  pub cause : HasCause old.faults new.faults result

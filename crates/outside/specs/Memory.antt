@@ -3,18 +3,18 @@ use Rattle.std.specs.Prelude.{ℕ, List, [], ◌∷◌, Option, Some, None, if�
 use Rattle.std.specs.Str.{bytes_eq}
 
 -- an input in memory: the bytes to come, and how often a read failed
-pub record Input : Type 0 where
+pub record HeldInput : Type 0 where
   pub left : List ℕ
   pub faults : ℕ
 
 -- an output in memory: the bytes written, how many more fit, and how often a write failed
-pub record Output : Type 0 where
+pub record HeldOutput : Type 0 where
   pub written : List ℕ
   pub room : ℕ
   pub faults : ℕ
 
 -- files in memory: names and bytes, of which the first of a name counts, and how often a call failed
-pub record Store : Type 0 where
+pub record HeldFiles : Type 0 where
   pub files : List (List ℕ × List ℕ)
   pub faults : ℕ
 

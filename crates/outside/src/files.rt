@@ -1,5 +1,6 @@
-ghost use Rattle.std.specs.Prelude.{◌≡◌, ℕ, List, Option};
+ghost use Rattle.std.specs.Prelude.{◌≡◌};
 ghost use Rattle.outside.specs.Disk.{ReadsFile, WritesFile};
+ghost use Rattle.outside.specs.Told.{Disk};
 
 use crate::Text;
 use std::alloc::{AllocError, Global};
@@ -18,11 +19,9 @@ pub enum FileFault {
 
 /// Files by name.
 pub trait Files {
-    /// What each file holds, by its name, if the store tells it.
-    ghost held: { Self → Option (List ℕ → Option (List ℕ)) };
-
-    /// How often the store has failed. It never falls.
-    ghost faults: { Self → ℕ };
+    /// What each file holds, by its name, if the store tells it, and how often the store has failed, a
+    /// count that never falls.
+    ghost told: { Self → Disk };
 
     /// The bytes of a file. No file is changed.
     ///
@@ -31,8 +30,8 @@ pub trait Files {
     /// `NotThere` where no file has the name, `TooLong` past the limit, `Failed` after a fault of
     /// the store, `NoMemory` where memory is refused.
     fn read_all(&mut self, alloc: Global, name: &Text, limit: usize) -> Result<Text, FileFault>
-        ensures reads { ReadsFile limit name.now (held self.old) (faults self.old) result (faults self.new) }
-        ensures same { held self.new ≡ held self.old };
+        ensures reads { ReadsFile limit name.now (told self.old) result (told self.new) }
+        ensures same { (told self.new).held ≡ (told self.old).held };
 
     /// Gives a file these bytes.
     ///
@@ -41,5 +40,5 @@ pub trait Files {
     /// `Failed` after a fault of the store, `NoMemory` where memory is refused. The file has its old
     /// bytes then, or a front of the new ones.
     fn write_all(&mut self, alloc: Global, name: &Text, bytes: &[u8]) -> Result<(), FileFault>
-        ensures writes { WritesFile name.now bytes.now (held self.old) (faults self.old) result (held self.new) (faults self.new) };
+        ensures { WritesFile name.now bytes.now (told self.old) result (told self.new) };
 }

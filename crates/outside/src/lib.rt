@@ -2,9 +2,10 @@
 //! What the shell sees of the outside: where its input comes from, where its text goes, and its
 //! files.
 //!
-//! Three traits say what a reader, a writer and a file store promise; whatever an object knows of
-//! its contents is a ghost member of the trait. A fault is answered only where the object's own
-//! count of faults rose. Objects in memory meet the traits for tests.
+//! Three traits say what a reader, a writer and a file store promise. What an object tells of its
+//! contents, and its count of faults, are one ghost member of its trait, `told`. A fault is answered
+//! only where the object's own count of faults rose. Each call that writes has one clause, `Writes`.
+//! Objects in memory meet the traits for tests.
 
 mod files;
 mod memory;
@@ -18,7 +19,7 @@ mod text;
 
 pub use files::{FileFault, Files};
 pub use memory::{MemFiles, MemSink, MemSource};
-pub use number::{is_digit, read_number};
+pub use number::{is_digit, put_integer, put_number, put_numbered, read_number};
 pub use sink::{Sink, put_all, put_parts};
 pub use source::{Line, LineFault, Source, read_line};
 pub use text::{Text, Words};

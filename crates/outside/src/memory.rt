@@ -50,9 +50,9 @@ pub struct MemSource {
 
 impl Model for MemSource {
     ghost use Rattle.std.specs.Prelude.{◌≤◌, drop, vec_len};
-    ghost use Rattle.outside.specs.Memory.{Input};
+    ghost use Rattle.outside.specs.Memory.{HeldInput};
 
-    ghost Value = { Input };
+    ghost Value = { HeldInput };
 
     ghost view = { λ s. record { left = drop s.at s.bytes.items; faults = s.calls.faults } };
 
@@ -79,9 +79,7 @@ impl MemSource {
 impl Source for MemSource {
     ghost use Rattle.std.specs.Prelude.{Some};
 
-    ghost left = { λ s. Some s.left };
-
-    ghost faults = { λ s. s.faults };
+    ghost told = { λ s. record { left = Some s.left; faults = s.faults } };
 
     #[tactic(auto, using(crate::proofs::MemoryLemmas::given_back))]
     fn read(&mut self, buf: &mut [u8]) -> Result<usize, Failed> {
@@ -105,9 +103,9 @@ pub struct MemSink {
 
 impl Model for MemSink {
     ghost use Rattle.std.specs.Prelude.{◌≤◌, ◌+◌, vec_len, vec_capacity};
-    ghost use Rattle.outside.specs.Memory.{Output};
+    ghost use Rattle.outside.specs.Memory.{HeldOutput};
 
-    ghost Value = { Output };
+    ghost Value = { HeldOutput };
 
     ghost view = { λ s. record { written = s.bytes.items; room = s.room; faults = s.calls.faults } };
 
@@ -142,9 +140,7 @@ impl MemSink {
 impl Sink for MemSink {
     ghost use Rattle.std.specs.Prelude.{Some};
 
-    ghost written = { λ s. Some s.written };
-
-    ghost faults = { λ s. s.faults };
+    ghost told = { λ s. record { written = Some s.written; faults = s.faults } };
 
     fn write(&mut self, bytes: &[u8]) -> Result<usize, Failed> {
         self.calls.make()?;
@@ -168,9 +164,9 @@ pub struct MemFiles {
 }
 
 impl Model for MemFiles {
-    ghost use Rattle.outside.specs.Memory.{Store};
+    ghost use Rattle.outside.specs.Memory.{HeldFiles};
 
-    ghost Value = { Store };
+    ghost Value = { HeldFiles };
 
     ghost view = { λ s. record { files = s.files.items; faults = s.calls.faults } };
 }
@@ -223,9 +219,7 @@ impl Files for MemFiles {
     ghost use Rattle.std.specs.Prelude.{Some};
     ghost use Rattle.outside.specs.Memory.{stored};
 
-    ghost held = { λ s. Some (stored s.files) };
-
-    ghost faults = { λ s. s.faults };
+    ghost told = { λ s. record { held = Some (stored s.files); faults = s.faults } };
 
     fn read_all(&mut self, alloc: Global, name: &Text, limit: usize) -> Result<Text, FileFault> {
         let Ok(()) = self.calls.make() else {

@@ -1,6 +1,11 @@
-ghost use Rattle.std.specs.Prelude.{◌≡◌, ◌-◌, ◌^◌, min};
+ghost use Rattle.std.specs.Prelude.{◌≡◌, ◌-◌, ◌^◌, ◌++◌, decimal, min};
+ghost use Rattle.std.specs.Fmt.{signed_decimal};
 ghost use Rattle.std.specs.List.{list_all};
+ghost use Rattle.outside.specs.Told.{Writes};
 ghost use Rattle.outside.specs.Number.{digits_value, is_digit, is_digits, number_of};
+
+use crate::{Failed, Sink, put_all};
+use itoa::Buffer;
 
 /// The largest number that is read.
 const LARGEST: u64 = 9_223_372_036_854_775_807;
@@ -48,4 +53,46 @@ fn read_digits(digits: &[u8]) -> u64
             .saturating_add(u64::from(digit.saturating_sub(b'0')));
     }
     value
+}
+
+/// Writes a number in decimal digits.
+///
+/// # Errors
+///
+/// `Failed` after a fault of the sink; a front of the digits was written then.
+pub fn put_number<S: Sink>(out: &mut S, number: u64) -> Result<(), Failed>
+    ensures { Writes (decimal number) (S.told out.old) result (S.told out.new) }
+{
+    let mut buffer = Buffer::new();
+    put_all(out, buffer.format(number).as_bytes())
+}
+
+/// Writes a number in decimal digits, behind a minus sign where it is below zero.
+///
+/// # Errors
+///
+/// `Failed` after a fault of the sink; a front of the text was written then.
+pub fn put_integer<S: Sink>(out: &mut S, number: i64) -> Result<(), Failed>
+    ensures { Writes (signed_decimal number) (S.told out.old) result (S.told out.new) }
+{
+    let mut buffer = Buffer::new();
+    put_all(out, buffer.format(number).as_bytes())
+}
+
+/// Writes a number between two texts.
+///
+/// # Errors
+///
+/// `Failed` after a fault of the sink; a front of the text was written then.
+pub fn put_numbered<S: Sink>(
+    out: &mut S,
+    before: &[u8],
+    number: u64,
+    after: &[u8],
+) -> Result<(), Failed>
+    ensures { Writes (before.now ++ decimal number ++ after.now) (S.told out.old) result (S.told out.new) }
+{
+    put_all(out, before)?;
+    put_number(out, number)?;
+    put_all(out, after)
 }

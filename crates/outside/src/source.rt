@@ -1,7 +1,7 @@
-ghost use Rattle.std.specs.Prelude.{◌≡◌, ◌≢◌, ◌<◌, ◌≤◌, ◌↔◌, ℕ, List, Option, [], ◌∷◌, length, take, IfOk, IfSome, IfNone, IsSome, OnErr};
+ghost use Rattle.std.specs.Prelude.{◌≡◌, ◌≢◌, ◌≤◌, [], ◌∷◌, IfOk, IfSome, IfNone, IsSome, OnErr};
 ghost use Rattle.std.specs.Io.KnownBytes.{prepend_known};
-ghost use Rattle.outside.specs.Told.{HasRisen};
-ghost use Rattle.outside.specs.Lines.{Reads, HasCause};
+ghost use Rattle.outside.specs.Told.{Fills, HasRisen, Input};
+ghost use Rattle.outside.specs.Lines.{ReadsLine};
 ghost use Rattle.outside.specs.declared.source.LineFault.TheVariants.{NoMemory};
 
 use crate::{Failed, Text};
@@ -9,11 +9,9 @@ use std::alloc::{AllocError, Global};
 
 /// Where input comes from.
 pub trait Source {
-    /// The bytes that are still to come, if the source tells them.
-    ghost left: { Self → Option (List ℕ) };
-
-    /// How often a read has failed. It never falls.
-    ghost faults: { Self → ℕ };
+    /// The bytes that are still to come, if the source tells them, and how often a read has failed, a
+    /// count that never falls.
+    ghost told: { Self → Input };
 
     /// Reads bytes into the front of the buffer, and answers how many. Zero for a buffer that has
     /// room is the end of the input.
@@ -22,12 +20,7 @@ pub trait Source {
     ///
     /// `Failed` after a fault of the source; nothing was taken then.
     fn read(&mut self, buf: &mut [u8]) -> Result<usize, Failed>
-        ensures within { IfOk result (λ n. n ≤ length buf.old) }
-        ensures ok { IfOk result (λ n. left self.old ≡ prepend_known (take n buf.new) (left self.new)) }
-        ensures end { 0 < length buf.old → IfOk result (λ n. IfSome (left self.old) (λ bytes. (n ≡ 0) ↔ (bytes ≡ []))) }
-        ensures err { OnErr result (left self.new ≡ left self.old) }
-        ensures cause { OnErr result (HasRisen (faults self.old) (faults self.new)) }
-        ensures count { faults self.old ≤ faults self.new };
+        ensures { Fills buf.old buf.new (told self.old) result (told self.new) };
 }
 
 /// What a read of a line found.
@@ -59,12 +52,12 @@ impl From<AllocError> for LineFault {
 
 /// Reads one byte, or none at the end.
 fn read_byte<S: Source>(from: &mut S) -> Result<Option<u8>, Failed>
-    ensures byte { IfOk result (λ found. IfSome found (λ b. S.left from.old ≡ prepend_known (b ∷ []) (S.left from.new))) }
-    ensures end { IfOk result (λ found. IfNone found ((S.left from.new ≡ S.left from.old) × IfSome (S.left from.old) (λ bytes. bytes ≡ []))) }
-    ensures more { IfOk result (λ found. IsSome found → IfSome (S.left from.old) (λ bytes. bytes ≢ [])) }
-    ensures err { OnErr result (S.left from.new ≡ S.left from.old) }
-    ensures cause { OnErr result (HasRisen (S.faults from.old) (S.faults from.new)) }
-    ensures count { S.faults from.old ≤ S.faults from.new }
+    ensures byte { IfOk result (λ found. IfSome found (λ b. (S.told from.old).left ≡ prepend_known (b ∷ []) (S.told from.new).left)) }
+    ensures end { IfOk result (λ found. IfNone found (((S.told from.new).left ≡ (S.told from.old).left) × IfSome (S.told from.old).left (λ bytes. bytes ≡ []))) }
+    ensures more { IfOk result (λ found. IsSome found → IfSome (S.told from.old).left (λ bytes. bytes ≢ [])) }
+    ensures err { OnErr result ((S.told from.new).left ≡ (S.told from.old).left) }
+    ensures cause { OnErr result (HasRisen (S.told from.old).faults (S.told from.new).faults) }
+    ensures count { (S.told from.old).faults ≤ (S.told from.new).faults }
 {
     let mut byte = [0u8; 1];
     let read = from.read(&mut byte)?;
@@ -79,8 +72,7 @@ fn read_byte<S: Source>(from: &mut S) -> Result<Option<u8>, Failed>
 /// line feed, `NoMemory` where memory is refused. A front of the line was taken then.
 #[tactic(auto, using(crate::proofs::ToldLemmas::taken_past, crate::proofs::ToldLemmas::taken_front))]
 pub fn read_line<S: Source>(alloc: Global, from: &mut S, limit: usize) -> Result<Line, LineFault>
-    ensures reads { Reads limit (S.left from.old) result (S.left from.new) }
-    ensures cause { HasCause (S.faults from.old) (S.faults from.new) result }
+    ensures { ReadsLine limit (S.told from.old) result (S.told from.new) }
 {
     let mut line = Text::new(alloc);
     loop {

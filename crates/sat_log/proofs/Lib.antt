@@ -6,7 +6,6 @@ pub mod FreshBound
 pub mod MarkLemmas
 pub mod Decided
 pub mod LogLemmas
-pub mod PutLemmas
 pub mod TextLemmas
 pub mod NumberLemmas
 pub mod PieceLemmas

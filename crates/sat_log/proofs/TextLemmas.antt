@@ -1,11 +1,11 @@
 -- The text of a log in pieces, as it is written.
 use Rattle.std.proofs.Common.{◌≡◌, ℕ, zero, suc, ◌+◌, ◌<◌, List, [], ◌∷◌, ◌++◌, map, length, get_or, take, drop, refl, ap, sym, ◌∙◌, append_assoc, add-one, length-append, arith, decimal}
-use Rattle.std.specs.Prelude.{codes, Option}
+use Rattle.std.specs.Prelude.{codes, Ok, Err}
 use Rattle.std.specs.List.{flat_map}
 use Rattle.std.proofs.lemmas.List.{append-nil}
-use Rattle.std.specs.Io.KnownBytes.{append_known}
-use Rattle.outside.specs.Told.{AddsFront}
-use Rattle.sat_log.proofs.PutLemmas.{front_then, front_more}
+use Rattle.outside.specs.declared.Failed.{Failed}
+use Rattle.outside.specs.Told.{Output, Writes}
+use Rattle.outside.proofs.WriteLemmas.{writes_as, writes_stopped, writes_then}
 use Rattle.sat_log.specs.Literal.{Literal}
 use Rattle.sat_log.specs.LogText.{spaced, line_text, literal_word, zero_word, letter, hint_words, line_words, clause_lines, end_words, text_of}
 use Rattle.sat_log.specs.declared.line.LineKind.{LineKind}
@@ -15,25 +15,6 @@ use Rattle.sat_log.specs.declared.line.LogLine.{LogLine}
 pub flat_map-append : {A : Type 0} (f : A → List ℕ) (xs ys : List A) → flat_map f (xs ++ ys) ≡ flat_map f xs ++ flat_map f ys
 flat_map-append f [] ys = refl
 flat_map-append f (x ∷ xs) ys = ap (λ t. f x ++ t) (flat_map-append f xs ys) ∙ sym (append_assoc (f x) (flat_map f xs) (flat_map f ys))
-
--- the text of all items: that of the first i, that of the next one, that of the others
-flat_map_rest : {A : Type 0} (f : A → List ℕ) (xs : List A) (i : ℕ) (d : A) → i < length xs → flat_map f xs ≡ (flat_map f (take i xs) ++ f (get_or xs i d)) ++ flat_map f (drop (suc i) xs)
-flat_map_rest f [] i d h = absurd (omega arith)
-flat_map_rest f (x ∷ xs) zero d h = refl
-flat_map_rest f (x ∷ xs) (suc i) d h =
-    let h' : i < length xs = omega arith in
-    ap (λ t. f x ++ t) (flat_map_rest f xs i d h') ∙ simp append_assoc
-
--- a front of a part in front is a front of the whole
-front_of : (told told' : Option (List ℕ)) (whole a b : List ℕ) → whole ≡ a ++ b → AddsFront told told' a → AddsFront told told' whole
-front_of told told' whole a b e h = rw e (front_more told told' a b h)
-
--- a loop that writes the items one after another ends at a front of the next one
-pub loop_exit : {A : Type 0} (f : A → List ℕ) (xs : List A) (i : ℕ) (d : A) (piece : List ℕ) (told told' told'' : Option (List ℕ)) → i < length xs → piece ≡ f (get_or xs i d) → told' ≡ append_known told (flat_map f (take i xs)) → AddsFront told' told'' piece → AddsFront told told'' (flat_map f xs)
-loop_exit f xs i d piece told told' told'' h same before err =
-    let next : flat_map f xs ≡ (flat_map f (take i xs) ++ piece) ++ flat_map f (drop (suc i) xs) =
-    flat_map_rest f xs i d h ∙ ap (λ y. (flat_map f (take i xs) ++ y) ++ flat_map f (drop (suc i) xs)) (sym same) in
-    front_of told told'' (flat_map f xs) (flat_map f (take i xs) ++ piece) (flat_map f (drop (suc i) xs)) next (front_then told told' told'' (flat_map f (take i xs)) piece before err)
 
 pub spaced-map : {A : Type 0} (word : A → List ℕ) (xs : List A) → spaced (map word xs) ≡ flat_map (λ x. 32 ∷ word x) xs
 spaced-map word [] = refl
@@ -75,16 +56,22 @@ lines_more log i line h at =
     ∙ flat_map-append line_text (clause_lines 1 (take i log)) (line_words (i + 1) (get_or log i line) ∷ [])
     ∙ ap (λ t. flat_map line_text (clause_lines 1 (take i log)) ++ t) (append-nil (line_text (line_words (i + 1) (get_or log i line))) ∙ ap (λ l. line_text (line_words (i + 1) l)) (sym at))
 
-pub lines_exit : (log : List LogLine) (i : ℕ) (line : LogLine) (told told' told'' : Option (List ℕ)) → i < length log → line ≡ get_or log i line → told' ≡ append_known told (flat_map line_text (clause_lines 1 (take i log))) → AddsFront told' told'' (line_text (line_words (i + 1) line)) → AddsFront told told'' (flat_map line_text (clause_lines 1 log))
-lines_exit log i line told told' told'' h at before err =
+-- the text of the lines before a line, its own, and that of the lines behind it
+lines_split : (log : List LogLine) (i : ℕ) (line : LogLine) → i < length log → line ≡ get_or log i line → (flat_map line_text (clause_lines 1 (take i log)) ++ line_text (line_words (i + 1) line)) ++ flat_map line_text (clause_lines (i + 1 + 1) (drop (suc i) log)) ≡ flat_map line_text (clause_lines 1 log)
+lines_split log i line h at =
     let front = flat_map line_text (clause_lines 1 (take i log)) in
     let rest = flat_map line_text (clause_lines (i + 1 + 1) (drop (suc i) log)) in
-    let here = line_text (line_words (i + 1) line) in
-    let next : flat_map line_text (clause_lines 1 log) ≡ (front ++ here) ++ rest =
-    ap (flat_map line_text) (clause_lines_rest 1 log i line h)
+    sym
+    (ap (flat_map line_text) (clause_lines_rest 1 log i line h)
     ∙ flat_map-append line_text (clause_lines 1 (take i log) ++ line_words (i + 1) (get_or log i line) ∷ []) (clause_lines (i + 1 + 1) (drop (suc i) log))
-    ∙ ap (λ t. t ++ rest) (flat_map-append line_text (clause_lines 1 (take i log)) (line_words (i + 1) (get_or log i line) ∷ []) ∙ ap (λ t. front ++ t) (append-nil (line_text (line_words (i + 1) (get_or log i line))) ∙ ap (λ l. line_text (line_words (i + 1) l)) (sym at))) in
-    front_of told told'' (flat_map line_text (clause_lines 1 log)) (front ++ here) rest next (front_then told told' told'' front here before err)
+    ∙ ap (λ t. t ++ rest) (flat_map-append line_text (clause_lines 1 (take i log)) (line_words (i + 1) (get_or log i line) ∷ []) ∙ ap (λ t. front ++ t) (append-nil (line_text (line_words (i + 1) (get_or log i line))) ∙ ap (λ l. line_text (line_words (i + 1) l)) (sym at))))
+
+-- the write of a line stopped, behind the lines before it
+pub lines_stopped : {X Y : Type 0} {x : X} {k : Failed} {old mid new : Output} (log : List LogLine) (i : ℕ) (line : LogLine) → i < length log → line ≡ get_or log i line → Writes (flat_map line_text (clause_lines 1 (take i log))) old (Ok x) mid → Writes {X = Y} (line_text (line_words (i + 1) line)) mid (Err k) new → Writes {X = Y} (flat_map line_text (clause_lines 1 log)) old (Err k) new
+lines_stopped log i line h at v w =
+    let rest = flat_map line_text (clause_lines (i + 1 + 1) (drop (suc i) log)) in
+    let whole : (flat_map line_text (clause_lines 1 (take i log)) ++ line_text (line_words (i + 1) line)) ++ rest ≡ flat_map line_text (clause_lines 1 log) = lines_split log i line h at in
+    writes_as whole (writes_stopped rest (writes_then v w))
 
 pub hint_pieces : (hints : List ℕ) → spaced (map decimal hints ++ zero_word ∷ []) ≡ flat_map (λ n. 32 ∷ decimal n) hints ++ 32 ∷ 48 ∷ []
 hint_pieces hints =

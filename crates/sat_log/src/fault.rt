@@ -1,10 +1,8 @@
-ghost use Rattle.std.specs.Prelude.{◌≡◌, ◌≤◌, OnOk, OnErr};
-ghost use Rattle.std.specs.Io.KnownBytes.{append_known};
-ghost use Rattle.outside.specs.Told.{HasRisen, AddsFront};
+ghost use Rattle.std.specs.Prelude.{◌≡◌};
+ghost use Rattle.outside.specs.Told.{Writes};
 ghost use Rattle.sat_log.specs.FaultText.{fault_text, fault_number};
 
-use crate::put::put_numbered;
-use outside::{Failed, Sink, put_all};
+use outside::{Failed, Sink, put_all, put_numbered};
 use std::alloc::AllocError;
 use thiserror::Error;
 
@@ -52,10 +50,7 @@ impl LogFault {
     ///
     /// `Failed` after a fault of the sink; a front of the text was written then.
     pub fn print_text<S: Sink>(&self, out: &mut S) -> Result<(), Failed>
-        ensures ok { OnOk result (S.written out.new ≡ append_known (S.written out.old) (fault_text self.now)) }
-        ensures err { OnErr result (AddsFront (S.written out.old) (S.written out.new) (fault_text self.now)) }
-        ensures cause { OnErr result (HasRisen (S.faults out.old) (S.faults out.new)) }
-        ensures count { S.faults out.old ≤ S.faults out.new }
+        ensures { Writes (fault_text self.now) (S.told out.old) result (S.told out.new) }
     {
         match self {
             LogFault::BadNumber(line) => put_numbered(

@@ -9,7 +9,6 @@ mod lists;
 mod literal;
 mod log;
 mod marks;
-mod put;
 mod read;
 mod words;
 mod write;

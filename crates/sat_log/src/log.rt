@@ -1,7 +1,6 @@
 ghost use Rattle.std.specs.Prelude.{List, ◌⊎◌, ◌≡◌, ◌≢◌, ◌++◌, ◌∷◌, ◌↔◌, ◌≤◌, ◌<◌, ◌^◌, [], true, false, length, min, IsTrue, IfOk, IfErr, OnOk, OnErr};
 ghost use Rattle.std.specs.Option.{option_copied};
-ghost use Rattle.std.specs.Io.KnownBytes.{append_known};
-ghost use Rattle.outside.specs.Told.{HasRisen, AddsFront};
+ghost use Rattle.outside.specs.Told.{Writes};
 ghost use Rattle.sat_log.specs.Clause.{HasDistinctVariables};
 ghost use Rattle.sat_log.specs.Accepted.{Accepts, IsLog, line_at, originals};
 ghost use Rattle.sat_log.specs.Checking.{IsUpTo, AreUpTo, accepts};
@@ -241,10 +240,7 @@ impl Log {
     ///
     /// `Failed` after a fault of the sink; a front of the text was written then.
     pub fn write_text<S: Sink>(&self, out: &mut S) -> Result<(), Failed>
-        ensures ok { OnOk result (S.written out.new ≡ append_known (S.written out.old) (text_of self.now)) }
-        ensures err { OnErr result (AddsFront (S.written out.old) (S.written out.new) (text_of self.now)) }
-        ensures cause { OnErr result (HasRisen (S.faults out.old) (S.faults out.new)) }
-        ensures count { S.faults out.old ≤ S.faults out.new }
+        ensures { Writes (text_of self.now) (S.told out.old) result (S.told out.new) }
     {
         put_log(out, self.lines.as_slice())
     }

@@ -1,22 +1,17 @@
 //! The text of a log, as it is written and how long it is.
 
-ghost use Rattle.std.specs.Prelude.{◌≡◌, ◌++◌, ◌∷◌, ◌+◌, ◌≤◌, ◌<◌, ◌^◌, [], map, decimal, length, min, OnOk, OnErr};
+ghost use Rattle.std.specs.Prelude.{◌≡◌, ◌++◌, ◌∷◌, ◌≤◌, [], map, decimal, length, min};
 ghost use Rattle.std.specs.List.{flat_map};
-ghost use Rattle.std.specs.Io.KnownBytes.{append_known};
-ghost use Rattle.outside.specs.Told.{HasRisen, AddsFront};
+ghost use Rattle.outside.specs.Told.{Writes};
 ghost use Rattle.sat_log.specs.LogText.{letter, literal_word, zero_word, spaced, hint_words, line_words, line_text, clause_lines, text_of};
 
-use crate::put::put_numbered;
 use crate::{LineKind, LogLine, SLit};
 use itoa::Buffer;
-use outside::{Failed, Sink, put_all};
+use outside::{Failed, Sink, put_all, put_numbered};
 
 /// Writes a literal behind a blank.
 fn put_literal<S: Sink>(out: &mut S, literal: SLit) -> Result<(), Failed>
-    ensures ok { OnOk result (S.written out.new ≡ append_known (S.written out.old) (32 ∷ literal_word literal)) }
-    ensures err { OnErr result (AddsFront (S.written out.old) (S.written out.new) (32 ∷ literal_word literal)) }
-    ensures cause { OnErr result (HasRisen (S.faults out.old) (S.faults out.new)) }
-    ensures count { S.faults out.old ≤ S.faults out.new }
+    ensures { Writes (32 ∷ literal_word literal) (S.told out.old) result (S.told out.new) }
 {
     if literal.is_negative() {
         put_numbered(out, b" -", literal.var(), b"")
@@ -27,12 +22,9 @@ fn put_literal<S: Sink>(out: &mut S, literal: SLit) -> Result<(), Failed>
 
 /// Writes literals, each behind a blank.
 fn put_literals<S: Sink>(out: &mut S, literals: &[SLit]) -> Result<(), Failed>
-    ensures ok { OnOk result (S.written out.new
-        ≡ append_known (S.written out.old) (flat_map (λ l. 32 ∷ literal_word l) literals.now)) }
-    ensures err { OnErr result (AddsFront (S.written out.old) (S.written out.new)
-        (flat_map (λ l. 32 ∷ literal_word l) literals.now)) }
-    ensures cause { OnErr result (HasRisen (S.faults out.old) (S.faults out.new)) }
-    ensures count { S.faults out.old ≤ S.faults out.new }
+    ensures { Writes
+        (flat_map (λ l. 32 ∷ literal_word l) literals.now)
+        (S.told out.old) result (S.told out.new) }
 {
     for literal in literals {
         put_literal(out, *literal)?;
@@ -42,12 +34,9 @@ fn put_literals<S: Sink>(out: &mut S, literals: &[SLit]) -> Result<(), Failed>
 
 /// Writes ids, each behind a blank.
 fn put_ids<S: Sink>(out: &mut S, ids: &[u64]) -> Result<(), Failed>
-    ensures ok { OnOk result (S.written out.new
-        ≡ append_known (S.written out.old) (flat_map (λ n. 32 ∷ decimal n) ids.now)) }
-    ensures err { OnErr result (AddsFront (S.written out.old) (S.written out.new)
-        (flat_map (λ n. 32 ∷ decimal n) ids.now)) }
-    ensures cause { OnErr result (HasRisen (S.faults out.old) (S.faults out.new)) }
-    ensures count { S.faults out.old ≤ S.faults out.new }
+    ensures { Writes
+        (flat_map (λ n. 32 ∷ decimal n) ids.now)
+        (S.told out.old) result (S.told out.new) }
 {
     for id in ids {
         put_numbered(out, b" ", *id, b"")?;
@@ -57,12 +46,9 @@ fn put_ids<S: Sink>(out: &mut S, ids: &[u64]) -> Result<(), Failed>
 
 /// Writes hints and the 0 behind them.
 fn put_hint_list<S: Sink>(out: &mut S, hints: &[u64]) -> Result<(), Failed>
-    ensures ok { OnOk result (S.written out.new
-        ≡ append_known (S.written out.old) (spaced (map decimal hints.now ++ zero_word ∷ []))) }
-    ensures err { OnErr result (AddsFront (S.written out.old) (S.written out.new)
-        (spaced (map decimal hints.now ++ zero_word ∷ []))) }
-    ensures cause { OnErr result (HasRisen (S.faults out.old) (S.faults out.new)) }
-    ensures count { S.faults out.old ≤ S.faults out.new }
+    ensures { Writes
+        (spaced (map decimal hints.now ++ zero_word ∷ []))
+        (S.told out.old) result (S.told out.new) }
 {
     put_ids(out, hints)?;
     put_all(out, b" 0")
@@ -70,12 +56,7 @@ fn put_hint_list<S: Sink>(out: &mut S, hints: &[u64]) -> Result<(), Failed>
 
 /// Writes the hints of a line, unless it is an original.
 fn put_hints<S: Sink>(out: &mut S, kind: LineKind, hints: &[u64]) -> Result<(), Failed>
-    ensures ok { OnOk result (S.written out.new
-        ≡ append_known (S.written out.old) (spaced (hint_words kind hints.now))) }
-    ensures err { OnErr result (AddsFront (S.written out.old) (S.written out.new)
-        (spaced (hint_words kind hints.now))) }
-    ensures cause { OnErr result (HasRisen (S.faults out.old) (S.faults out.new)) }
-    ensures count { S.faults out.old ≤ S.faults out.new }
+    ensures { Writes (spaced (hint_words kind hints.now)) (S.told out.old) result (S.told out.new) }
 {
     match kind {
         LineKind::Original => Ok(()),
@@ -96,12 +77,7 @@ fn letter(kind: LineKind) -> &'static [u8]
 
 /// Writes a line of a log.
 fn put_line<S: Sink>(out: &mut S, id: u64, line: &LogLine) -> Result<(), Failed>
-    ensures ok { OnOk result (S.written out.new
-        ≡ append_known (S.written out.old) (line_text (line_words id line.now))) }
-    ensures err { OnErr result (AddsFront (S.written out.old) (S.written out.new)
-        (line_text (line_words id line.now))) }
-    ensures cause { OnErr result (HasRisen (S.faults out.old) (S.faults out.new)) }
-    ensures count { S.faults out.old ≤ S.faults out.new }
+    ensures { Writes (line_text (line_words id line.now)) (S.told out.old) result (S.told out.new) }
 {
     put_numbered(out, b"", id, letter(line.kind))?;
     put_literals(out, line.lits.as_slice())?;
@@ -112,12 +88,9 @@ fn put_line<S: Sink>(out: &mut S, id: u64, line: &LogLine) -> Result<(), Failed>
 
 /// Writes the lines of a log, which are numbered from 1.
 fn put_lines<S: Sink>(out: &mut S, lines: &[LogLine]) -> Result<(), Failed>
-    ensures ok { OnOk result (S.written out.new
-        ≡ append_known (S.written out.old) (flat_map line_text (clause_lines 1 lines.now))) }
-    ensures err { OnErr result (AddsFront (S.written out.old) (S.written out.new)
-        (flat_map line_text (clause_lines 1 lines.now))) }
-    ensures cause { OnErr result (HasRisen (S.faults out.old) (S.faults out.new)) }
-    ensures count { S.faults out.old ≤ S.faults out.new }
+    ensures { Writes
+        (flat_map line_text (clause_lines 1 lines.now))
+        (S.told out.old) result (S.told out.new) }
 {
     for (i, line) in lines.iter().enumerate() {
         put_line(out, i as u64 + 1, line)?;
@@ -203,10 +176,7 @@ pub(crate) fn text_len(lines: &[LogLine]) -> u64
 
 /// Writes the text of a log.
 pub(crate) fn put_log<S: Sink>(out: &mut S, lines: &[LogLine]) -> Result<(), Failed>
-    ensures ok { OnOk result (S.written out.new ≡ append_known (S.written out.old) (text_of lines.now)) }
-    ensures err { OnErr result (AddsFront (S.written out.old) (S.written out.new) (text_of lines.now)) }
-    ensures cause { OnErr result (HasRisen (S.faults out.old) (S.faults out.new)) }
-    ensures count { S.faults out.old ≤ S.faults out.new }
+    ensures { Writes (text_of lines.now) (S.told out.old) result (S.told out.new) }
 {
     put_all(out, b"log 1\n")?;
     put_lines(out, lines)?;

@@ -6,8 +6,8 @@ use Rattle.outside.proofs.sink.put_all.Given as goal
 abbrev pub invariant-loop-at : goal.invariant-loop-at
 invariant-loop-at g l =
     (l.at ≤ length l.bytes)
-    × (g.S.Sink.written l.out ≡ append_known (g.S.Sink.written l.initial.out) (take l.at l.bytes))
-    × (g.S.Sink.faults l.initial.out ≤ g.S.Sink.faults l.out)
+    × ((g.S.Sink.told l.out).written ≡ append_known (g.S.Sink.told l.initial.out).written (take l.at l.bytes))
+    × ((g.S.Sink.told l.initial.out).faults ≤ (g.S.Sink.told l.out).faults)
 
 abbrev pub decreases-loop-at : goal.decreases-loop-at
 decreases-loop-at g l = length l.bytes - l.at

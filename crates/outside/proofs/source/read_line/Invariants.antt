@@ -9,8 +9,8 @@ invariant-loop-next g l =
     record {
       one_line : IsOneLine l.line;
       within : length l.line ≤ l.limit;
-      taken : g.S.Source.left l.initial.from ≡ prepend_known l.line (g.S.Source.left l.from);
-      count : g.S.Source.faults l.initial.from ≤ g.S.Source.faults l.from;
+      taken : (g.S.Source.told l.initial.from).left ≡ prepend_known l.line (g.S.Source.told l.from).left;
+      count : (g.S.Source.told l.initial.from).faults ≤ (g.S.Source.told l.from).faults;
     }
 
 abbrev pub decreases-loop-next : goal.decreases-loop-next

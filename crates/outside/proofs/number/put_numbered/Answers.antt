@@ -1,0 +1,13 @@
+use Rattle.outside.proofs.WriteLemmas.{writes_returned, writes_stopped, writes_then}
+use Rattle.outside.proofs.number.put_numbered.Goals as goal
+
+pub returns-in_err-put_all : goal.returns-in_err-put_all
+returns-in_err-put_all g c =
+    writes_returned _ c.from_residual.result c.from_residual.ensures.1 (writes_stopped _ (writes_stopped _ c.in_err-put_all.ensures))
+
+pub returns-in_err-put_number : goal.returns-in_err-put_number
+returns-in_err-put_number g c =
+    writes_returned _ c.from_residual-in_err-put_number.result c.from_residual-in_err-put_number.ensures.1 (writes_stopped _ (writes_then c.in_ok-put_all.ensures c.in_err-put_number.ensures))
+
+pub returns : goal.returns
+returns g c = writes_then (writes_then c.in_ok-put_all.ensures c.in_ok-put_number.ensures) c.put_all-2.ensures
