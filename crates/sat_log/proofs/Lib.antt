@@ -6,11 +6,3 @@ pub mod FreshBound
 pub mod MarkLemmas
 pub mod Decided
 pub mod LogLemmas
-pub mod TextLemmas
-pub mod NumberLemmas
-pub mod PieceLemmas
-pub mod ReadLemmas
-pub mod PageLaws
-pub mod SplitLaws
-pub mod LineFaults
-pub mod FaultLaws

@@ -3,7 +3,7 @@ use Rattle.std.proofs.Common.{◌≡◌, ◌≢◌, ℕ, ◌<◌, ◌≤◌, len
 use Rattle.std.proofs.lemmas.List.{append-nil}
 use Rattle.sat_log.specs.Literal.{Literal}
 use Rattle.sat_log.specs.Clause.{AreLiterals, HasDistinctVariables}
-use Rattle.sat_log.specs.Accepted.{Accepts, IsOfKind, Follows, AreLines, IsLog}
+use Rattle.sat_log.specs.Accepted.{Accepts, IsOriginal, IsOfKind, Follows, AreLines, IsLog}
 use Rattle.sat_log.specs.Marked.{Marked, HasRoomFor, HasRoomForAll, KeepsRoom}
 use Rattle.sat_log.specs.Checking.{IsUpTo, AreUpTo}
 use Rattle.sat_log.specs.Kept.{KeepsLog}
@@ -69,10 +69,10 @@ keeps_push log line old new last most last' k clear keeps follows room u h more 
       up_to = all_up_to_push last' log line (all_up_to_more last last' log more k.up_to) (up_to_more most last' line.lits h u);
     }
 
--- an original with a literal, no variable twice and no hint may come next
-pub original_follows : (log : List LogLine) (line : LogLine) → AreLiterals line.lits → line.kind ≡ Original → 0 < length line.lits → length line.hints ≤ 0 → HasDistinctVariables line.lits → Follows log line
-original_follows log line literals kind some none distinct =
-    (literals, subst (λ k. IsOfKind k log line) (sym kind) (record { nonempty = (λ e. has_some (ap length e)); distinct = distinct; unhinted = no_hints line.hints none }))
+-- a line with a literal, no variable twice and no hint is an original
+pub is_original : (line : LogLine) → 0 < length line.lits → length line.hints ≤ 0 → HasDistinctVariables line.lits → IsOriginal line
+is_original line some none distinct =
+    record { nonempty = (λ e. has_some (ap length e)); distinct = distinct; unhinted = no_hints line.hints none }
   where
     has_some : length line.lits ≡ 0 → ⊥
     has_some e = omega arith
@@ -80,3 +80,7 @@ original_follows log line literals kind some none distinct =
     no_hints : (hints : List ℕ) → length hints ≤ 0 → hints ≡ []
     no_hints [] h = refl
     no_hints (x ∷ hints) h = absurd (omega arith)
+
+-- and may come next
+pub original_follows : (log : List LogLine) (line : LogLine) → AreLiterals line.lits → line.kind ≡ Original → IsOriginal line → Follows log line
+original_follows log line literals kind proper = (literals, subst (λ k. IsOfKind k log line) (sym kind) proper)
