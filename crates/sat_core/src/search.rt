@@ -1,11 +1,12 @@
 //! The search: propagation, decisions, and what is learned from conflicts (Eén and Sörensson 2003).
 
-ghost use Rattle.std.specs.Prelude.{◌≡◌, ◌≢◌, ◌+◌, ◌<◌, ◌≤◌, ◌++◌, ◌∷◌, [], List, length, IfOk, IfSome, IfNone, OnOk, OnErr};
+ghost use Rattle.std.specs.Prelude.{◌≡◌, ◌≢◌, ◌+◌, ◌<◌, ◌≤◌, ◌++◌, ◌∷◌, [], List, length, map, IfOk, IfSome, IfNone, OnOk, OnErr};
+ghost use Rattle.std.specs.List.{AllByRecursion};
 ghost use Rattle.sat_log.specs.Literal.{Literal};
 ghost use Rattle.sat_log.specs.Clause.{HasDistinctVariables};
 ghost use Rattle.sat_log.specs.Accepted.{IsLog, clauses};
 ghost use Rattle.sat_log.specs.Checking.{IsUpTo, AreUpTo};
-ghost use Rattle.sat_log.specs.Kept.{original};
+ghost use Rattle.sat_log.specs.Kept.{original, AreProper};
 ghost use Rattle.sat_core.specs.Assignment.{assignment, AreTrue, IsSolution, HasNoSolution};
 ghost use Rattle.sat_core.specs.Gained.{gained, HasNoOriginal};
 ghost use Rattle.sat_core.specs.Gains.{outcome, Gains};
@@ -116,6 +117,21 @@ impl Search {
         ensures err { OnErr result (self.new ≡ self.old) }
     {
         self.log.add_original(lits)
+    }
+
+    /// Adds clauses at level 0: all of them, or none.
+    ///
+    /// # Errors
+    ///
+    /// `AllocError` where memory is refused; all stays as it was.
+    pub(crate) fn add_clauses(&mut self, clauses: &[SLits]) -> Result<(), AllocError>
+        requires proper { AreProper clauses.now }
+        requires exist { AllByRecursion (IsUpTo self.old.variables) clauses.now }
+        requires level { top self.old.entries ≡ 0 }
+        ensures ok { OnOk result (self.new ≡ record { variables = self.old.variables; log = self.old.log ++ map original clauses.now; entries = self.old.entries }) }
+        ensures err { OnErr result (self.new ≡ self.old) }
+    {
+        self.log.add_originals(clauses)
     }
 
     /// How many lines the log has.

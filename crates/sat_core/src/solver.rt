@@ -1,7 +1,8 @@
-ghost use Rattle.std.specs.Prelude.{◌≡◌, ◌≢◌, ◌+◌, ◌++◌, ◌∷◌, [], length, IfOk, OnOk, OnErr};
+ghost use Rattle.std.specs.Prelude.{◌≡◌, ◌≢◌, ◌+◌, ◌++◌, ◌∷◌, [], length, map, IfOk, OnOk, OnErr};
+ghost use Rattle.std.specs.List.{AllByRecursion};
 ghost use Rattle.sat_log.specs.Clause.{HasDistinctVariables};
 ghost use Rattle.sat_log.specs.Checking.{IsUpTo, AreUpTo};
-ghost use Rattle.sat_log.specs.Kept.{original};
+ghost use Rattle.sat_log.specs.Kept.{original, AreProper};
 ghost use Rattle.sat_core.specs.Assignment.{IsSolution, HasNoSolution};
 ghost use Rattle.sat_core.specs.Gained.{gained, HasNoOriginal};
 ghost use Rattle.sat_core.specs.Gains.{outcome, Gains};
@@ -74,6 +75,20 @@ impl Solver {
         ensures err { OnErr result (self.new ≡ self.old) }
     {
         self.search.add_clause(lits)
+    }
+
+    /// Adds clauses in their order: all of them, or none.
+    ///
+    /// # Errors
+    ///
+    /// `AllocError` where memory is refused; the solver stays as it was.
+    pub fn add_clauses(&mut self, clauses: &[SLits]) -> Result<(), AllocError>
+        requires proper { AreProper clauses.now }
+        requires exist { AllByRecursion (IsUpTo self.old.variables) clauses.now }
+        ensures ok { OnOk result (self.new ≡ record { variables = self.old.variables; log = self.old.log ++ map original clauses.now }) }
+        ensures err { OnErr result (self.new ≡ self.old) }
+    {
+        self.search.add_clauses(clauses)
     }
 
     /// How many variables there are. No other stands in the log.

@@ -1,9 +1,9 @@
-ghost use Rattle.std.specs.Prelude.{◌≡◌, ◌≢◌, ◌++◌, ◌∷◌, ◌↔◌, ◌<◌, ◌^◌, [], Err, length, IsTrue, IfOk, OnOk, OnErr};
+ghost use Rattle.std.specs.Prelude.{◌≡◌, ◌≢◌, ◌++◌, ◌∷◌, ◌↔◌, ◌<◌, ◌^◌, [], Err, length, map, take, IsTrue, IfOk, OnOk, OnErr};
 ghost use Rattle.std.specs.Option.{option_copied};
 ghost use Rattle.sat_log.specs.Clause.{HasDistinctVariables};
 ghost use Rattle.sat_log.specs.Accepted.{Accepts, IsOriginal, IsOfKind, IsLog, line_at, clause_at, originals};
 ghost use Rattle.sat_log.specs.Checking.{IsUpTo, AreUpTo};
-ghost use Rattle.sat_log.specs.Kept.{original};
+ghost use Rattle.sat_log.specs.Kept.{original, AreProper};
 ghost use Rattle.sat_log.specs.declared.line.LineKind.TheVariants.{Original};
 
 use crate::check::{accepts_line, clause_at, is_distinct, last_variable, line_at};
@@ -113,6 +113,35 @@ impl Log {
         self.lines.push(line)?;
         self.last = last;
         Ok(self.lines.len() as u64)
+    }
+
+    /// Adds original clauses in their order: all of them, or none.
+    ///
+    /// # Errors
+    ///
+    /// `AllocError` where memory is refused; the log stays as it was.
+    pub fn add_originals(&mut self, clauses: &[SLits]) -> Result<(), AllocError>
+        requires { AreProper clauses.now }
+        ensures ok { OnOk result (self.new ≡ self.old ++ map original clauses.now) }
+        ensures err { OnErr result (self.new ≡ self.old) }
+    {
+        let (count, last) = (self.lines.len(), self.variables());
+        for clause in clauses {
+            if let Err(error) = self.add_original(clause) {
+                self.take_back(count, last);
+                return Err(error);
+            }
+        }
+        Ok(())
+    }
+
+    /// Takes all lines away but the first ones, in which no variable is past the last one.
+    fn take_back(&mut self, count: usize, last: u64)
+        requires { AreUpTo last (take count self.old) }
+        ensures { self.new ≡ take count self.old }
+    {
+        self.lines.truncate(count);
+        self.last = last;
     }
 
     /// Appends a conflict line or a final line if the log accepts it, and answers its id.
