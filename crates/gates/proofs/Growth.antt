@@ -1,11 +1,13 @@
 -- How lists of nodes grow, and what stays when they do.
-use Rattle.std.proofs.Common.{◌≡◌, ℕ, ◌<◌, ◌≤◌, zero, suc, List, [], ◌∷◌, ◌++◌, length, get_or, take, refl, sym, ap, ◌∙◌, subst, arith, ⊎_elim}
-use Rattle.std.proofs.lemmas.List.{length-append, take_at, take-take, take_all, get_or_append_left, get_or-take, get_or_push, length_push}
+use Rattle.std.proofs.Common.{◌≡◌, ℕ, ◌<◌, ◌≤◌, zero, suc, List, [], ◌∷◌, ◌++◌, length, get_or, take, refl, sym, ap, ◌∙◌, subst, append_assoc, arith, ⊎_elim, Result, Ok, Err, OnOk, IsTrue}
+use Rattle.std.specs.Prelude.{OnErr}
+use Rattle.std.specs.List.{AllByRecursion}
+use Rattle.std.proofs.lemmas.List.{append-nil, length-append, take_at, take-take, take_all, get_or_append_left, get_or-take, get_or_push, length_push}
 use Rattle.std.proofs.lemmas.Bool.{cases_lt}
 use Rattle.gates.specs.Literal.{Literal, span}
 use Rattle.gates.specs.declared.node.Node.{Node}
 use Rattle.gates.specs.declared.node.Node.TheVariants.{True, Input, And}
-use Rattle.gates.specs.Nodes.{node_at, StandsAt, WellFormed, Grows}
+use Rattle.gates.specs.Nodes.{node_at, is_conjunction, StandsAt, WellFormed, Grows, AddsConjunctions}
 
 pub Grows-refl : (nodes : List Node) → Grows nodes nodes
 Grows-refl nodes = record { longer = omega arith; kept = take_all _ nodes (omega arith) }
@@ -18,6 +20,27 @@ Grows-trans {a} {b} {c} first second = record {
   longer = omega (arith, first.longer, second.longer);
   kept = sym (take-take (length a) (length b) c first.longer) ∙ ap (take (length a)) second.kept ∙ first.kept;
 }
+
+-- Where only conjunctions are added.
+
+pub AddsConjunctions-refl : (nodes : List Node) → AddsConjunctions nodes nodes
+AddsConjunctions-refl nodes = record { added = []; longer = sym (append-nil nodes); all_conjunctions = tt }
+
+conjunctions-append : (xs ys : List Node) → AllByRecursion (λ y. IsTrue (is_conjunction y)) xs → AllByRecursion (λ y. IsTrue (is_conjunction y)) ys → AllByRecursion (λ y. IsTrue (is_conjunction y)) (xs ++ ys)
+conjunctions-append [] ys h k = k
+conjunctions-append (x ∷ xs) ys h k = (h.0, conjunctions-append xs ys h.1 k)
+
+pub AddsConjunctions-trans : {a b c : List Node} → AddsConjunctions a b → AddsConjunctions b c → AddsConjunctions a c
+AddsConjunctions-trans {a} {b} {c} first second = record {
+  added = first.added ++ second.added;
+  longer = second.longer ∙ ap (λ ns. ns ++ second.added) first.longer ∙ append_assoc a first.added second.added;
+  all_conjunctions = conjunctions-append first.added second.added first.all_conjunctions second.all_conjunctions;
+}
+
+-- one conjunction was added, or none where memory was refused
+pub AddsConjunctions-one : {T E : Type 0} (old new : List Node) (a b : Literal) (r : Result T E) → OnOk r (new ≡ old ++ And a b ∷ []) → OnErr r (new ≡ old) → AddsConjunctions old new
+AddsConjunctions-one old new a b (Ok x) ok err = record { added = And a b ∷ []; longer = ok; all_conjunctions = (refl, tt) }
+AddsConjunctions-one old new a b (Err e) ok err = record { added = []; longer = err ∙ sym (append-nil old); all_conjunctions = tt }
 
 -- a node keeps its number
 pub node_at-Grows : {old new : List Node} → Grows old new → (n : ℕ) → n < length old → node_at new n ≡ node_at old n

@@ -1,4 +1,5 @@
-use Rattle.std.specs.Prelude.{◌≡◌, ℕ, ◌<◌, ◌≤◌, Bool, true, false, List, length, take, slice_index_or}
+use Rattle.std.specs.Prelude.{◌≡◌, ℕ, ◌<◌, ◌≤◌, Bool, true, false, List, ◌++◌, length, take, slice_index_or, IsTrue}
+use Rattle.std.specs.List.{AllByRecursion}
 use Rattle.gates.specs.Literal.{Literal, span}
 use Rattle.gates.specs.declared.node.Node.{Node}
 use Rattle.gates.specs.declared.node.Node.TheVariants.{True, Input, And}
@@ -37,3 +38,9 @@ abbrev pub is_conjunction : Node → Bool
 is_conjunction True = false
 is_conjunction Input = false
 is_conjunction (And a b) = true
+
+-- the new nodes are the old ones, with conjunctions behind them and nothing else
+pub record AddsConjunctions (old new : List Node) : Type 0 where
+  pub added : List Node
+  pub longer : new ≡ old ++ added
+  pub all_conjunctions : AllByRecursion (λ y. IsTrue (is_conjunction y)) added

@@ -1,6 +1,6 @@
 ghost use Rattle.std.specs.Prelude.{◌≡◌, ℕ, ◌+◌, ◌^◌, ◌<◌, ◌≤◌, Bool, ◌&&◌, [], ◌∷◌, ◌++◌, List, length, take, count_by, Option, None, Some, Ok, IfSome, IfOk, OnOk, OnErr};
 ghost use Rattle.gates.specs.Literal.{Literal, positive};
-ghost use Rattle.gates.specs.Nodes.{node_at, is_conjunction, WellFormed, Grows, Belongs};
+ghost use Rattle.gates.specs.Nodes.{node_at, is_conjunction, WellFormed, Grows, AddsConjunctions, Belongs};
 ghost use Rattle.gates.specs.declared.node.Node.{Node};
 ghost use Rattle.gates.specs.Valuation.{value_of, IsValuation};
 ghost use Rattle.gates.specs.Sharing.{simplified, earlier, later, conjunction, Stands};
@@ -127,6 +127,7 @@ impl Gates {
         ensures stands { IfOk result (λ l. Stands self.new a b l) }
         ensures err { OnErr result (self.new ≡ self.old) }
         ensures grows { Grows self.old self.new }
+        ensures conjunctions { AddsConjunctions self.old self.new }
         ensures well_formed { WellFormed self.new }
     {
         match self.find(a, b) {

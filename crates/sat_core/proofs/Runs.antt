@@ -1,18 +1,19 @@
 -- What a search has gained so far.
-use Rattle.std.proofs.Common.{◌≡◌, ◌≢◌, ◌⊎◌, inl, inr, ℕ, Bool, cond, ◌+◌, ◌-◌, ◌*◌, ◌<◌, ◌≤◌, List, [], ◌∷◌, ◌++◌, length, drop, refl, ap, sym, subst, ◌∙◌, append_assoc, mul_comm, arith}
-use Rattle.std.specs.Prelude.{None, Some, Result, Ok, Err, slice_get, option_to_list}
+use Rattle.std.proofs.Common.{◌≡◌, ◌≢◌, ◌⊎◌, inl, inr, ℕ, Bool, cond, ◌+◌, ◌-◌, ◌*◌, ◌^◌, ◌<◌, ◌≤◌, List, [], ◌∷◌, ◌++◌, length, drop, refl, ap, sym, subst, ◌∙◌, append_assoc, mul_comm, arith}
+use Rattle.std.specs.Prelude.{None, Some, Result, Ok, Err, IsErr, slice_get, option_to_list}
 use Rattle.std.specs.List.{AllByRecursion}
 use Rattle.std.proofs.lemmas.List.{length_push, length-append, drop_at, append-nil}
 use Rattle.std.proofs.lemmas.Nat.{mul-add-lt}
 use Rattle.sat_log.specs.Literal.{Literal}
-use Rattle.std.proofs.lemmas.Bool.{ne_eqb}
+use Rattle.std.proofs.lemmas.Bool.{ne_eqb, cases_lt}
 use Rattle.sat_log.specs.Clause.{Satisfies}
-use Rattle.sat_log.specs.Accepted.{given, originals, line_at}
-use Rattle.sat_log.specs.Learned.{learned, conflicts as conflict_clauses}
+use Rattle.sat_log.specs.Accepted.{given, originals, line_at, IsLog}
+use Rattle.sat_log.specs.Learned.{learned, AllFresh, conflicts as conflict_clauses}
 use Rattle.sat_log.specs.declared.line.LineKind.{LineKind}
 use Rattle.sat_log.specs.declared.line.LineKind.TheVariants.{Original, Conflict, Final}
 use Rattle.sat_log.specs.declared.line.LogLine.{LogLine}
 use Rattle.sat_core.specs.Gained.{gained, conflicts, IsLonger, HasNoOriginal, HasNoFinal, IsLearned, AreLearned, IsRefusal}
+use Rattle.sat_core.specs.Gains.{Outcome, refuted, stopped, outcome, EndsAs, Gains}
 use Rattle.sat_core.specs.Assignment.{HasNoSolution}
 use Rattle.sat_core.specs.Verdicts.{IsBelow, IsWithin, IfNo}
 use Rattle.sat_core.specs.declared.verdict.Verdict.{Verdict}
@@ -210,6 +211,57 @@ step_within start want old new step budget which h s below = by_budget budget be
 pub within_none : (budget : Budget) → IsWithin budget 0
 within_none Unset = tt
 within_none (Of n) = omega arith
+
+-- a budget is spent where it allows no more
+pub is_spent : (budget : Budget) (n : ℕ) → IsWithin budget n → ¬ IsBelow budget n → budget ≡ Of n
+is_spent Unset n within over = absurd (over tt)
+is_spent (Of most) n within over = ap Of (by_order (cases_lt n most))
+  where
+    by_order : (n < most) ⊎ (most ≤ n) → most ≡ n
+    by_order (inl below) = absurd (over below)
+    by_order (inr past) = omega arith
+
+-- What is gained, whatever the search comes to.
+
+module _ (n : ℕ) (budget : Budget) (want : List Literal) (start : List LogLine) where
+  -- a log that learned lines alone
+  pub gains_learned : (log new : List LogLine) (end : Outcome) → new ≡ log → HasLearned start log → IsLog new → AllFresh start (gained start new) → conflicts (gained start new) < 3 ^ n → EndsAs budget want start new end → Gains n budget want start new end
+  gains_learned log new end same h is_log fresh few ends =
+      let learned = subst (HasLearned start) (sym same) h in
+      record {
+        longer = learned.longer;
+        is_log = is_log;
+        learned = learned.learned_is;
+        fresh = fresh;
+        few = few;
+        ends = ends;
+      }
+
+  pub has_no_final : (log new : List LogLine) → new ≡ log → HasLearned start log → HasNoFinal (gained start new)
+  has_no_final log new same h =
+      none_final (gained start new) (subst (HasLearned start) (sym same) h).conflict
+
+  -- a final line more
+  pub gains_final : (log new : List LogLine) (id : ℕ) → HasLearned start log → id ≡ length new → AddsFinal want log new → IsLog new → AllFresh start (gained start new) → conflicts (gained start new) < 3 ^ n → IsBelow budget (conflicts (gained start log)) → Gains n budget want start new (refuted id)
+  gains_final log new id h last a is_log fresh few below =
+      record {
+        longer = longer_push start log new a.line h.longer a.same;
+        is_log = is_log;
+        learned = final_learned start log new want h a;
+        fresh = fresh;
+        few = few;
+        ends = (refusal start log new want id h.longer last a, subst (IsBelow budget) (sym (final_counts start log new a.line h.longer a.same a.kind)) below);
+      }
+
+-- where a call has no answer, memory was refused
+pub outcome_err : {E : Type 0} (P : Outcome → Type 0) (r : Result Verdict E) → IsErr r → P stopped → P (outcome r)
+outcome_err P (Ok v) e h = absurd cc
+outcome_err P (Err x) e h = h
+
+-- what is gained, over an equal log
+pub gains_same : {E : Type 0} (r : Result Verdict E) (n m : ℕ) (budget : Budget) (want : List Literal) (start old new : List LogLine) → new ≡ old → m ≡ n → Gains n budget want start old (outcome r) → Gains m budget want start new (outcome r)
+gains_same r n m budget want start old new same variables h =
+    subst (λ (k : ℕ). Gains k budget want start new (outcome r)) (sym variables) (subst (λ (l : List LogLine). Gains n budget want start l (outcome r)) (sym same) h)
 
 -- what holds of a refusal, over an equal log
 pub if_no : {E : Type 0} (r : Result Verdict E) (old new : List LogLine) (want : List Literal) → new ≡ old → IfNo r (λ _. HasNoSolution old want) → IfNo r (λ _. HasNoSolution new want)

@@ -1,12 +1,15 @@
 -- What a search keeps, through a decision, a new variable and a new line of the log.
-use Rattle.std.proofs.Common.{◌≡◌, ℕ, zero, suc, ◌+◌, ◌-◌, ◌<◌, ◌≤◌, Bool, true, false, cond, eqb, ◌⊎◌, inl, inr, List, [], ◌∷◌, ◌++◌, length, refl, ap, sym, subst, ◌∙◌, arith}
+use Rattle.std.proofs.Common.{◌≡◌, ℕ, zero, suc, ◌+◌, ◌-◌, ◌<◌, ◌≤◌, Bool, true, false, cond, eqb, ◌⊎◌, inl, inr, List, [], ◌∷◌, ◌++◌, length, map, refl, ap, sym, subst, ◌∙◌, append_assoc, arith}
 use Rattle.std.specs.Prelude.{Option, None, Some, Result, Ok, Err, OnOk, OnErr, slice_get}
 use Rattle.std.specs.Option.{option_and_then}
+use Rattle.std.specs.List.{AllByRecursion}
+use Rattle.std.proofs.lemmas.List.{append-nil}
 use Rattle.std.proofs.lemmas.Bool.{cases_lt, le-ltb}
 use Rattle.sat_log.specs.Literal.{Literal}
 use Rattle.sat_log.specs.Clause.{IsUnset}
 use Rattle.sat_log.specs.Accepted.{hinted, clause_at, clauses}
 use Rattle.sat_log.specs.Checking.{IsUpTo, AreUpTo}
+use Rattle.sat_log.specs.Kept.{original}
 use Rattle.sat_log.specs.declared.line.LogLine.{LogLine}
 use Rattle.sat_core.specs.Trail.{Trailed, literals, top, before}
 use Rattle.sat_core.specs.Units.{HasCause, IsTrail, AreQuiet, MissesNoUnit}
@@ -56,6 +59,13 @@ keeps_original log trail analysis line k none up =
       clear = k.clear;
       size = k.size;
     }
+
+-- original clauses at level 0
+pub keeps_originals : (log : List LogLine) (trail : Trailed) (analysis : Analyzed) (cs : List (List Literal)) → KeepsSearch log trail analysis → top trail.entries ≡ 0 → AllByRecursion (IsUpTo trail.variables) cs → KeepsSearch (log ++ map original cs) trail analysis
+keeps_originals log trail analysis [] k none up = subst (λ lines. KeepsSearch lines trail analysis) (sym (append-nil log)) k
+keeps_originals log trail analysis (c ∷ cs) k none up =
+    subst (λ lines. KeepsSearch lines trail analysis) (append_assoc log (original c ∷ []) (map original cs))
+    (keeps_originals (log ++ original c ∷ []) trail analysis cs (keeps_original log trail analysis (original c) k none up.0) none up.1)
 
 -- One variable more.
 

@@ -2,6 +2,7 @@ pub mod Contents
 pub mod Assignment
 pub mod Gained
 pub mod Verdicts
+pub mod Gains
 pub mod Trail
 pub mod Units
 pub mod Passes

@@ -1,21 +1,23 @@
 //! The search: propagation, decisions, and what is learned from conflicts (Eén and Sörensson 2003).
 
-ghost use Rattle.std.specs.Prelude.{◌≡◌, ◌≢◌, ◌+◌, ◌<◌, ◌≤◌, ◌++◌, ◌∷◌, [], List, length, IfOk, IfSome, IfNone, OnOk, OnErr};
+ghost use Rattle.std.specs.Prelude.{◌≡◌, ◌≢◌, ◌+◌, ◌<◌, ◌≤◌, ◌++◌, ◌∷◌, [], List, length, map, IfOk, IfSome, IfNone, OnOk, OnErr};
+ghost use Rattle.std.specs.List.{AllByRecursion};
 ghost use Rattle.sat_log.specs.Literal.{Literal};
 ghost use Rattle.sat_log.specs.Clause.{HasDistinctVariables};
 ghost use Rattle.sat_log.specs.Accepted.{IsLog, clauses};
 ghost use Rattle.sat_log.specs.Checking.{IsUpTo, AreUpTo};
-ghost use Rattle.sat_log.specs.Kept.{original};
+ghost use Rattle.sat_log.specs.Kept.{original, AreProper};
 ghost use Rattle.sat_core.specs.Assignment.{assignment, AreTrue, IsSolution, HasNoSolution};
-ghost use Rattle.sat_core.specs.Gained.{gained, conflicts, IsLonger, HasNoOriginal, HasNoFinal, AreLearned, IsRefusal};
-ghost use Rattle.sat_core.specs.Verdicts.{IfYes, IfNo, IfSpent, IsBelow};
+ghost use Rattle.sat_core.specs.Gained.{gained, HasNoOriginal};
+ghost use Rattle.sat_core.specs.Gains.{outcome, Gains};
+ghost use Rattle.sat_core.specs.Verdicts.{IfYes, IfNo};
 ghost use Rattle.sat_core.specs.Trail.{literals, top};
 ghost use Rattle.sat_core.specs.Units.{IsConflict, AreQuiet};
 ghost use Rattle.sat_core.specs.Search.{AskedFirst, StepsTo};
 
 use crate::analysis::Analysis;
 use crate::decide::Decision;
-use crate::laws::{final_line_refutes, learned_lines_are_few};
+use crate::laws::{final_line_refutes, learned_lines_are_few, learned_lines_are_fresh};
 use crate::propagate::propagate;
 use crate::trail::Trail;
 use crate::{Budget, SBits, Verdict};
@@ -117,6 +119,21 @@ impl Search {
         self.log.add_original(lits)
     }
 
+    /// Adds clauses at level 0: all of them, or none.
+    ///
+    /// # Errors
+    ///
+    /// `AllocError` where memory is refused; all stays as it was.
+    pub(crate) fn add_clauses(&mut self, clauses: &[SLits]) -> Result<(), AllocError>
+        requires proper { AreProper clauses.now }
+        requires exist { AllByRecursion (IsUpTo self.old.variables) clauses.now }
+        requires level { top self.old.entries ≡ 0 }
+        ensures ok { OnOk result (self.new ≡ record { variables = self.old.variables; log = self.old.log ++ map original clauses.now; entries = self.old.entries }) }
+        ensures err { OnErr result (self.new ≡ self.old) }
+    {
+        self.log.add_originals(clauses)
+    }
+
     /// How many lines the log has.
     fn lines(&self) -> u64
         ensures count { result ≡ length self.now.log }
@@ -206,32 +223,27 @@ impl Search {
         requires distinct { HasDistinctVariables want.now }
         requires exist { IsUpTo self.old.variables want.now }
         ensures yes { IfYes result (IsSolution self.new.variables self.new.log want.now) }
-        ensures no { IfNo result (IsRefusal self.old.log self.new.log want.now) }
         ensures refuted { IfNo result (λ _. HasNoSolution self.new.log want.now) }
-        ensures spent { IfSpent result (λ n. budget ≡ Budget.Of n) }
-        ensures spent_all { IfSpent result (λ n. conflicts (gained self.old.log self.new.log) ≡ n) }
-        ensures yes_within { IfYes result (λ _. IsBelow budget (conflicts (gained self.old.log self.new.log))) }
-        ensures no_within { IfNo result (λ _. IsBelow budget (conflicts (gained self.old.log self.new.log))) }
-        ensures longer { IsLonger self.old.log self.new.log }
+        ensures gains { Gains self.new.variables budget want.now self.old.log self.new.log (outcome result) }
         ensures no_original { HasNoOriginal (gained self.old.log self.new.log) }
-        ensures learned { AreLearned self.old.log (gained self.old.log self.new.log) }
-        ensures yes_final { IfYes result (λ _. HasNoFinal (gained self.old.log self.new.log)) }
-        ensures spent_final { IfSpent result (λ _. HasNoFinal (gained self.old.log self.new.log)) }
         ensures variables { self.new.variables ≡ self.old.variables }
     {
-        // By these laws the loop ends, and a final line refutes what is wanted.
+        // By these laws the loop ends, what it learns is fresh, and a final line refutes what is wanted.
         learned_lines_are_few();
+        learned_lines_are_fresh();
         final_line_refutes();
         self.reset();
         let start = self.lines();
         let mut learned = 0;
         while budget.allows(learned) {
-            match self.step(want)? {
+            let step = self.step(want);
+            let lines = self.lines();
+            match step? {
                 Step::Learned | Step::Decided => {}
                 Step::Yes(bits) => return Ok(Verdict::Yes(bits)),
                 Step::No(id) => return Ok(Verdict::No(id)),
             }
-            learned = self.lines() - start;
+            learned = lines - start;
         }
         Ok(Verdict::Spent(learned))
     }

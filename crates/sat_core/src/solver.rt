@@ -1,10 +1,12 @@
-ghost use Rattle.std.specs.Prelude.{◌≡◌, ◌≢◌, ◌+◌, ◌++◌, ◌∷◌, [], length, IfOk, OnOk, OnErr};
+ghost use Rattle.std.specs.Prelude.{◌≡◌, ◌≢◌, ◌+◌, ◌++◌, ◌∷◌, [], length, map, IfOk, OnOk, OnErr};
+ghost use Rattle.std.specs.List.{AllByRecursion};
 ghost use Rattle.sat_log.specs.Clause.{HasDistinctVariables};
 ghost use Rattle.sat_log.specs.Checking.{IsUpTo, AreUpTo};
-ghost use Rattle.sat_log.specs.Kept.{original};
+ghost use Rattle.sat_log.specs.Kept.{original, AreProper};
 ghost use Rattle.sat_core.specs.Assignment.{IsSolution, HasNoSolution};
-ghost use Rattle.sat_core.specs.Gained.{gained, conflicts, IsLonger, HasNoOriginal, HasNoFinal, AreLearned, IsRefusal};
-ghost use Rattle.sat_core.specs.Verdicts.{IfYes, IfNo, IfSpent, IsBelow};
+ghost use Rattle.sat_core.specs.Gained.{gained, HasNoOriginal};
+ghost use Rattle.sat_core.specs.Gains.{outcome, Gains};
+ghost use Rattle.sat_core.specs.Verdicts.{IfYes, IfNo};
 
 use crate::search::Search;
 use crate::{Budget, Verdict};
@@ -75,6 +77,20 @@ impl Solver {
         self.search.add_clause(lits)
     }
 
+    /// Adds clauses in their order: all of them, or none.
+    ///
+    /// # Errors
+    ///
+    /// `AllocError` where memory is refused; the solver stays as it was.
+    pub fn add_clauses(&mut self, clauses: &[SLits]) -> Result<(), AllocError>
+        requires proper { AreProper clauses.now }
+        requires exist { AllByRecursion (IsUpTo self.old.variables) clauses.now }
+        ensures ok { OnOk result (self.new ≡ record { variables = self.old.variables; log = self.old.log ++ map original clauses.now }) }
+        ensures err { OnErr result (self.new ≡ self.old) }
+    {
+        self.search.add_clauses(clauses)
+    }
+
     /// How many variables there are. No other stands in the log.
     pub fn variables(&self) -> u64
         ensures count { result ≡ self.now.variables }
@@ -94,25 +110,16 @@ impl Solver {
     ///
     /// # Errors
     ///
-    /// `AllocError` where memory is refused; the log may have gained lines that follow from the others.
+    /// `AllocError` where memory is refused; the log may have gained conflict lines, within the budget.
     pub fn solve(&mut self, want: &SLits, budget: Budget) -> Result<Verdict, AllocError>
         requires distinct { HasDistinctVariables want.now }
         requires exist { IsUpTo self.old.variables want.now }
         // What is answered.
         ensures yes { IfYes result (IsSolution self.new.variables self.new.log want.now) }
-        ensures no { IfNo result (IsRefusal self.old.log self.new.log want.now) }
         ensures refuted { IfNo result (λ _. HasNoSolution self.new.log want.now) }
-        ensures spent { IfSpent result (λ n. budget ≡ Budget.Of n) }
-        ensures spent_all { IfSpent result (λ n. conflicts (gained self.old.log self.new.log) ≡ n) }
-        // Where a budget is set, the other two answers come before it is spent.
-        ensures yes_within { IfYes result (λ _. IsBelow budget (conflicts (gained self.old.log self.new.log))) }
-        ensures no_within { IfNo result (λ _. IsBelow budget (conflicts (gained self.old.log self.new.log))) }
         // What is gained, whatever is answered.
-        ensures longer { IsLonger self.old.log self.new.log }
+        ensures gains { Gains self.new.variables budget want.now self.old.log self.new.log (outcome result) }
         ensures no_original { HasNoOriginal (gained self.old.log self.new.log) }
-        ensures learned { AreLearned self.old.log (gained self.old.log self.new.log) }
-        ensures yes_final { IfYes result (λ _. HasNoFinal (gained self.old.log self.new.log)) }
-        ensures spent_final { IfSpent result (λ _. HasNoFinal (gained self.old.log self.new.log)) }
         ensures variables { self.new.variables ≡ self.old.variables }
     {
         let verdict = self.search.run(want.as_slice(), budget);

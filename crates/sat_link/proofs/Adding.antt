@@ -1,11 +1,14 @@
--- A node's clauses are added one after another.
-use Rattle.std.proofs.Common.{◌≡◌, ◌≤◌, ◌<◌, ◌+◌, ℕ, suc, List, [], ◌∷◌, ◌++◌, length, drop, get_or, refl, sym, ap, ◌∙◌, append_assoc, arith}
+-- Originals are added to a log.
+use Rattle.std.proofs.Common.{◌≡◌, ◌≤◌, ◌+◌, ℕ, suc, List, [], ◌∷◌, ◌++◌, length, map, refl, sym, ap, subst, ◌∙◌, append_assoc, arith}
 use Rattle.std.specs.Prelude.{option_to_list}
 use Rattle.std.specs.List.{AllByRecursion}
-use Rattle.std.proofs.lemmas.List.{append-nil, drop_more}
+use Rattle.std.proofs.lemmas.List.{append-nil}
 use Rattle.sat_log.specs.Literal.{Literal}
-use Rattle.sat_log.specs.Accepted.{given, originals}
-use Rattle.sat_log.specs.Kept.{original}
+use Rattle.sat_log.proofs.ListLemmas.{All-append}
+use Rattle.sat_log.proofs.LogLemmas.{log_push}
+use Rattle.sat_log.specs.Clause.{AreLiterals}
+use Rattle.sat_log.specs.Accepted.{given, originals, IsLog}
+use Rattle.sat_log.specs.Kept.{original, AreProper}
 use Rattle.sat_log.specs.declared.line.LineKind.{LineKind}
 use Rattle.sat_log.specs.declared.line.LineKind.TheVariants.{Original, Conflict, Final}
 use Rattle.sat_log.specs.declared.line.LogLine.{LogLine}
@@ -18,34 +21,37 @@ originals-append [] lines = refl
 originals-append (line ∷ log) lines =
     ap (λ cs. option_to_list (given line.kind line.lits) ++ cs) (originals-append log lines) ∙ sym (append_assoc (option_to_list (given line.kind line.lits)) (originals log) (originals lines))
 
--- the clause that comes next is added
-pub next_added : (log new start : List LogLine) (cs : List (List Literal)) (k first : ℕ) → k < length cs
-    → new ≡ log ++ original (get_or cs k []) ∷ []
-    → originals log ++ drop k cs ≡ originals start ++ drop first cs
-    → originals new ++ drop (k + 1) cs ≡ originals start ++ drop first cs
-next_added log new start cs k first l e before =
-    ap (λ ls. originals ls ++ drop (k + 1) cs) e
-    ∙ ap (λ os. os ++ drop (k + 1) cs) (originals-append log (original (get_or cs k []) ∷ []))
-    ∙ append_assoc (originals log) (get_or cs k [] ∷ []) (drop (k + 1) cs)
-    ∙ ap (λ ds. originals log ++ ds) (sym (drop_more cs k [] l))
-    ∙ before
+-- originals that were added are just those clauses
+originals-original : (cs : List (List Literal)) → originals (map original cs) ≡ cs
+originals-original [] = refl
+originals-original (c ∷ cs) = ap (λ ds. c ∷ ds) (originals-original cs)
 
-pub AddsOriginals-refl : (log new : List LogLine) → new ≡ log → AddsOriginals log new
-AddsOriginals-refl log new e = record { added = []; longer = e ∙ sym (append-nil log); all_originals = tt }
+pub originals-added : (log : List LogLine) (cs : List (List Literal)) → originals (log ++ map original cs) ≡ originals log ++ cs
+originals-added log cs = originals-append log (map original cs) ∙ ap (λ ds. originals log ++ ds) (originals-original cs)
 
-all_append : (P : LogLine → Type 0) (xs ys : List LogLine) → AllByRecursion P xs → AllByRecursion P ys → AllByRecursion P (xs ++ ys)
-all_append P [] ys h k = k
-all_append P (x ∷ xs) ys h k = (h.0, all_append P xs ys h.1 k)
+-- proper clauses may be added to a log
+pub log-added : (log : List LogLine) (cs : List (List Literal)) → IsLog log → AreProper cs → AllByRecursion AreLiterals cs → IsLog (log ++ map original cs)
+log-added log [] h proper literals = subst IsLog (sym (append-nil log)) h
+log-added log (c ∷ cs) h proper literals =
+    let next : IsLog (log ++ original c ∷ []) = log_push log (original c) h (literals.0, record { nonempty = proper.0.0; distinct = proper.0.1; unhinted = refl }) in
+    subst IsLog (append_assoc log (original c ∷ []) (map original cs)) (log-added (log ++ original c ∷ []) cs next proper.1 literals.1)
+
+all_original : (cs : List (List Literal)) → AllByRecursion (λ line. line.kind ≡ Original) (map original cs)
+all_original [] = tt
+all_original (c ∷ cs) = (refl, all_original cs)
+
+pub AddsOriginals-refl : (log : List LogLine) → AddsOriginals log log
+AddsOriginals-refl log = record { added = []; longer = sym (append-nil log); all_originals = tt }
+
+pub AddsOriginals-added : (log new : List LogLine) (cs : List (List Literal)) → new ≡ log ++ map original cs → AddsOriginals log new
+AddsOriginals-added log new cs e = record { added = map original cs; longer = e; all_originals = all_original cs }
 
 pub AddsOriginals-trans : (a b c : List LogLine) → AddsOriginals a b → AddsOriginals b c → AddsOriginals a c
 AddsOriginals-trans a b c first second = record {
   added = first.added ++ second.added;
   longer = second.longer ∙ ap (λ ls. ls ++ second.added) first.longer ∙ append_assoc a first.added second.added;
-  all_originals = all_append (λ line. line.kind ≡ Original) first.added second.added first.all_originals second.all_originals;
+  all_originals = All-append (λ line. line.kind ≡ Original) first.added second.added first.all_originals second.all_originals;
 }
-
-pub AddsOriginals-push : (log new : List LogLine) (c : List Literal) → new ≡ log ++ original c ∷ [] → AddsOriginals log new
-AddsOriginals-push log new c e = record { added = original c ∷ []; longer = e; all_originals = (refl, tt) }
 
 -- they are no more than the lines
 pub originals-le : (log : List LogLine) → length (originals log) ≤ length log

@@ -1,6 +1,8 @@
 -- The solver's answers over variables, read over nodes.
-use Rattle.std.proofs.Common.{◌≡◌, ◌≢◌, ◌≤◌, ◌+◌, ℕ, Bool, List, [], ◌∷◌, length, Result, Ok, Err, IfOk, OnOk, sym, ap, subst, ◌∙◌, arith}
+use Rattle.std.proofs.Common.{◌≡◌, ◌≢◌, ◌≤◌, ◌+◌, ℕ, Bool, List, [], ◌∷◌, length, Result, Ok, Err, OnOk, sym, ap, subst, ◌∙◌, arith}
 use Rattle.std.specs.List.{AllByRecursion}
+use Rattle.std.specs.Result.{IsErrAnd}
+use Rattle.std.proofs.lemmas.Result.{err_from_is_err_and}
 use Rattle.std.specs.declared.alloc.AllocError.{AllocError}
 use Rattle.gates.specs.Literal.{Literal, span}
 use Rattle.gates.specs.declared.node.Node.{Node}
@@ -11,14 +13,20 @@ use Rattle.sat_log.specs.Checking.{IsUpTo}
 use Rattle.sat_log.specs.Accepted.{originals}
 use Rattle.sat_log.specs.declared.line.LogLine.{LogLine}
 use Rattle.sat_core.specs.Assignment.{assignment, AreTrue as AreTrueVariables, IsSolution as IsAssignment, HasNoSolution as HasNoAssignment}
-use Rattle.sat_core.specs.Verdicts.{IfYes as IfFoundYes, IfNo as IfFoundNo, IfSpent as IfFoundSpent}
+use Rattle.sat_core.specs.Verdicts.{IfYes as IfFoundYes, IfNo as IfFoundNo, IsBelow, IsWithin}
+use Rattle.sat_core.specs.Gained.{gained, conflicts}
+use Rattle.sat_core.specs.Gains.{Outcome, found, refuted, spent, stopped, EndsAs, Gains, outcome as outcome_found}
+use Rattle.sat_core.specs.declared.budget.Budget.{Budget}
+use Rattle.sat_core.specs.declared.budget.Budget.TheVariants.{Unset, Of}
 use Rattle.sat_core.specs.declared.verdict.Verdict.{Verdict as Found}
-use Rattle.sat_core.specs.declared.verdict.Verdict.TheVariants as found
+use Rattle.sat_core.specs.declared.verdict.Verdict.TheVariants as answer
 use Rattle.sat_link.specs.declared.verdict.Verdict.{Verdict}
+use Rattle.sat_link.specs.declared.verdict.Verdict.TheVariants.{Yes, No, Spent}
 use Rattle.sat_link.specs.Encoding.{all_encoded, definitions}
 use Rattle.sat_link.specs.Definitional.{IsDefinitional, IsWhole}
-use Rattle.sat_link.specs.Answers.{HasDistinctNodes, AreTrue, IsSolution, HasNoSolution, IfYes, IfNo, IfSpent, answered, IsValued}
+use Rattle.sat_link.specs.Answers.{HasDistinctNodes, AreTrue, IsSolution, HasNoSolution, IfYes, IfNo, IsValued, Tells, outcome}
 use Rattle.sat_link.proofs.Defining.{encoded_value, whole}
+use Rattle.sat_link.proofs.Valued.{true_first}
 
 -- What is wanted, over variables.
 
@@ -47,59 +55,80 @@ encoded_true values (l ∷ ls) h = (sym (encoded_value values l) ∙ h.0, encode
 pub whole_originals : (gates : List Node) (log : List LogLine) → WellFormed gates → originals log ≡ definitions gates → IsWhole gates (originals log)
 whole_originals gates log well all = subst (IsWhole gates) (sym all) (whole gates well)
 
-solution : (gates : List Node) (log : List LogLine) (want : List Literal) (variables : ℕ) (bits : List Bool) → IsWhole gates (originals log) → variables ≡ length gates
-    → IsAssignment variables log (all_encoded want) bits → IsSolution gates want bits
-solution gates log want variables bits w count s =
-    let long : length bits ≡ length gates = s.one_each ∙ count in
-    record {
-      one_each = long;
-      valuation = w bits (omega arith) s.originals_true;
-      wanted_true = encoded_true bits want s.wanted_true;
-    }
-
 pub no_solution : (gates : List Node) (log : List LogLine) (want : List Literal) → IsDefinitional gates (originals log) → HasNoAssignment log (all_encoded want) → HasNoSolution gates want
 no_solution gates log want d none values v t = none (assignment values) (d values v) (true_encoded values want t)
 
-pub valued : (gates : List Node) (want : List Literal) (f : Found) → IfFoundYes {E = AllocError} (Ok f) (IsSolution gates want) → IsValued gates f
-valued gates want (found.Yes bits) h = (h.one_each, h.valuation)
-valued gates want (found.No id) h = tt
-valued gates want (found.Spent n) h = tt
+pub valued : (gates : List Node) (log : List LogLine) (want : List SolverLiteral) (variables : ℕ) (f : Found) → IsWhole gates (originals log) → length gates ≤ variables
+    → IfFoundYes {E = AllocError} (Ok f) (IsAssignment variables log want) → IsValued gates f
+valued gates log want variables (answer.Yes bits) w enough s = w bits (subst (λ n. length gates ≤ n) (sym s.one_each) enough) s.originals_true
+valued gates log want variables (answer.No id) w enough s = tt
+valued gates log want variables (answer.Spent n) w enough s = tt
 
-pub solution_found : (gates : List Node) (log : List LogLine) (want : List Literal) (literals : List SolverLiteral) (nodes : List Node) (f : Found) → WellFormed gates → originals log ≡ definitions gates → nodes ≡ gates → literals ≡ all_encoded want
-    → IfFoundYes {E = AllocError} (Ok f) (IsAssignment (length nodes) log literals) → IfFoundYes {E = AllocError} (Ok f) (IsSolution gates want)
-solution_found gates log want literals nodes (found.Yes bits) well all same encoding h =
-    solution gates log want (length nodes) bits (whole_originals gates log well all) (ap length same) (subst (λ ls. IsAssignment (length nodes) log ls bits) encoding h)
-solution_found gates log want literals nodes (found.No id) well all same encoding h = tt
-solution_found gates log want literals nodes (found.Spent n) well all same encoding h = tt
+-- What an answer tells.
 
--- A clause on what is found, as one on what is answered.
+pub yes_told : {F : Type 0} (gates : List Node) (log : List LogLine) (want : List Literal) (literals : List SolverLiteral) (variables : ℕ) (f : Found) (r : Result Verdict F) → span want ≤ length gates → literals ≡ all_encoded want
+    → Tells gates f r → IfFoundYes {E = AllocError} (Ok f) (IsAssignment variables log literals) → IfYes r (IsSolution gates want)
+yes_told gates log want literals variables (answer.Yes bits) (Ok (Yes values)) within encoding t s = record {
+  one_each = t.one_each;
+  valuation = t.valuation;
+  wanted_true = subst (λ vs. AreTrue vs want) (sym t.first) (true_first (length gates) bits want within (encoded_true bits want (subst (AreTrueVariables (assignment bits)) encoding s.wanted_true)));
+}
+yes_told gates log want literals variables (answer.Yes bits) (Ok (No id)) within encoding t s = tt
+yes_told gates log want literals variables (answer.Yes bits) (Ok (Spent n)) within encoding t s = tt
+yes_told gates log want literals variables (answer.Yes bits) (Err e) within encoding t s = tt
+yes_told gates log want literals variables (answer.No id) (Ok (Yes values)) within encoding t s = absurd t
+yes_told gates log want literals variables (answer.No id) (Ok (No id')) within encoding t s = tt
+yes_told gates log want literals variables (answer.No id) (Ok (Spent n)) within encoding t s = tt
+yes_told gates log want literals variables (answer.No id) (Err e) within encoding t s = tt
+yes_told gates log want literals variables (answer.Spent n) (Ok (Yes values)) within encoding t s = absurd t
+yes_told gates log want literals variables (answer.Spent n) (Ok (No id)) within encoding t s = tt
+yes_told gates log want literals variables (answer.Spent n) (Ok (Spent n')) within encoding t s = tt
+yes_told gates log want literals variables (answer.Spent n) (Err e) within encoding t s = tt
 
-pub yes_answered : {F : Type 0} (f : Found) (r : Result Verdict F) (P Q : List Bool → Type 0) → IfOk r (λ v. v ≡ answered f) → ((bits : List Bool) → P bits → Q bits) → IfFoundYes {E = AllocError} (Ok f) P → IfYes r Q
-yes_answered f (Err e) P Q same g h = tt
-yes_answered {F} f (Ok v) P Q same g h = subst (λ w. IfYes {E = F} (Ok w) Q) (sym same) (by f h)
-  where
-    by : (f : Found) → IfFoundYes {E = AllocError} (Ok f) P → IfYes {E = F} (Ok (answered f)) Q
-    by (found.Yes bits) h = g bits h
-    by (found.No id) h = tt
-    by (found.Spent n) h = tt
+pub no_told : {F : Type 0} (gates : List Node) (f : Found) (r : Result Verdict F) (P Q : Type 0) → (P → Q) → Tells gates f r → IfFoundNo {E = AllocError} (Ok f) (λ _. P) → IfNo r (λ _. Q)
+no_told gates (answer.Yes bits) (Ok (Yes values)) P Q g t h = tt
+no_told gates (answer.Yes bits) (Ok (No id)) P Q g t h = absurd t
+no_told gates (answer.Yes bits) (Ok (Spent n)) P Q g t h = tt
+no_told gates (answer.Yes bits) (Err e) P Q g t h = tt
+no_told gates (answer.No id) (Ok (Yes values)) P Q g t h = tt
+no_told gates (answer.No id) (Ok (No id')) P Q g t h = g h
+no_told gates (answer.No id) (Ok (Spent n)) P Q g t h = tt
+no_told gates (answer.No id) (Err e) P Q g t h = tt
+no_told gates (answer.Spent n) (Ok (Yes values)) P Q g t h = tt
+no_told gates (answer.Spent n) (Ok (No id)) P Q g t h = absurd t
+no_told gates (answer.Spent n) (Ok (Spent n')) P Q g t h = tt
+no_told gates (answer.Spent n) (Err e) P Q g t h = tt
 
-pub no_answered : {F : Type 0} (f : Found) (r : Result Verdict F) (P Q : ℕ → Type 0) → IfOk r (λ v. v ≡ answered f) → ((id : ℕ) → P id → Q id) → IfFoundNo {E = AllocError} (Ok f) P → IfNo r Q
-no_answered f (Err e) P Q same g h = tt
-no_answered {F} f (Ok v) P Q same g h = subst (λ w. IfNo {E = F} (Ok w) Q) (sym same) (by f h)
-  where
-    by : (f : Found) → IfFoundNo {E = AllocError} (Ok f) P → IfNo {E = F} (Ok (answered f)) Q
-    by (found.Yes bits) h = tt
-    by (found.No id) h = g id h
-    by (found.Spent n) h = tt
+-- below a budget is within it
+below_within : (budget : Budget) (n : ℕ) → IsBelow budget n → IsWithin budget n
+below_within Unset n h = tt
+below_within (Of most) n h = omega (arith, h)
 
-pub spent_answered : {F : Type 0} (f : Found) (r : Result Verdict F) (P Q : ℕ → Type 0) → IfOk r (λ v. v ≡ answered f) → ((n : ℕ) → P n → Q n) → IfFoundSpent {E = AllocError} (Ok f) P → IfSpent r Q
-spent_answered f (Err e) P Q same g h = tt
-spent_answered {F} f (Ok v) P Q same g h = subst (λ w. IfSpent {E = F} (Ok w) Q) (sym same) (by f h)
-  where
-    by : (f : Found) → IfFoundSpent {E = AllocError} (Ok f) P → IfSpent {E = F} (Ok (answered f)) Q
-    by (found.Yes bits) h = tt
-    by (found.No id) h = tt
-    by (found.Spent n) h = g n h
+gains_end : (variables : ℕ) (budget : Budget) (want : List SolverLiteral) (old new : List LogLine) (end end' : Outcome) → (EndsAs budget want old new end → EndsAs budget want old new end') → Gains variables budget want old new end → Gains variables budget want old new end'
+gains_end variables budget want old new end end' f g =
+    record { longer = g.longer; is_log = g.is_log; learned = g.learned; fresh = g.fresh; few = g.few; ends = f g.ends }
+
+pub gains_told : {F : Type 0} (gates : List Node) (variables : ℕ) (budget : Budget) (want : List SolverLiteral) (old new : List LogLine) (f : Found) (r : Result Verdict F) → Tells gates f r
+    → Gains variables budget want old new (outcome_found {E = AllocError} (Ok f)) → Gains variables budget want old new (outcome r)
+gains_told gates variables budget want old new (answer.Yes bits) (Ok (Yes values)) t g = g
+gains_told gates variables budget want old new (answer.Yes bits) (Ok (No id)) t g = absurd t
+gains_told gates variables budget want old new (answer.Yes bits) (Ok (Spent n)) t g = absurd t
+gains_told gates variables budget want old new (answer.Yes bits) (Err e) t g =
+    gains_end variables budget want old new found stopped (λ h. (h.0, below_within budget (conflicts (gained old new)) h.1)) g
+gains_told gates variables budget want old new (answer.No id) (Ok (Yes values)) t g = absurd t
+gains_told gates variables budget want old new (answer.No id) (Ok (No id')) t g = subst (λ i. Gains variables budget want old new (refuted i)) (sym t) g
+gains_told gates variables budget want old new (answer.No id) (Ok (Spent n)) t g = absurd t
+gains_told gates variables budget want old new (answer.No id) (Err e) t g = absurd t
+gains_told gates variables budget want old new (answer.Spent n) (Ok (Yes values)) t g = absurd t
+gains_told gates variables budget want old new (answer.Spent n) (Ok (No id)) t g = absurd t
+gains_told gates variables budget want old new (answer.Spent n) (Ok (Spent n')) t g = subst (λ m. Gains variables budget want old new (spent m)) (sym t) g
+gains_told gates variables budget want old new (answer.Spent n) (Err e) t g = absurd t
+
+-- what a `?` returns
+pub gains_stopped : {F : Type 0} (variables : ℕ) (budget : Budget) (want : List SolverLiteral) (old new : List LogLine) (Q : F → Type 0) (r : Result Verdict F) → IsErrAnd r Q
+    → Gains variables budget want old new stopped → Gains variables budget want old new (outcome r)
+gains_stopped {F} variables budget want old new Q r q g =
+    subst (Gains variables budget want old new) (sym (ap (λ (s : Result Verdict F). outcome s) (err_from_is_err_and r q).1)) g
 
 pub if_ok : {A F : Type 0} (r : Result A F) (P : Type 0) → P → OnOk r P
 if_ok (Err e) P h = tt

@@ -1,6 +1,7 @@
 -- The clauses of nodes are true at just the valuations of the nodes.
 use Rattle.std.proofs.Common.{◌≡◌, ◌<◌, ◌+◌, ◌-◌, ℕ, zero, suc, Bool, true, false, not, cond, ◌||◌, ◌&&◌, List, [], ◌∷◌, ◌++◌, length, IsTrue, refl, sym, ap, subst, ◌∙◌, arith}
 use Rattle.std.proofs.Math.Path.{transport}
+use Rattle.std.proofs.Math.Bool.{or-false}
 use Rattle.std.proofs.lemmas.Bool.{false≢true}
 use Rattle.gates.specs.Literal.{Literal as GateLiteral}
 use Rattle.gates.specs.declared.node.Node.{Node}
@@ -10,6 +11,7 @@ use Rattle.gates.specs.Valuation.{value_at, value_of, MayBe}
 use Rattle.gates.proofs.Growth.{node_at-zero}
 use Rattle.sat_log.specs.Literal.{Literal, negated}
 use Rattle.sat_log.specs.Clause.{literal_value, Satisfies}
+use Rattle.sat_log.proofs.LiteralLemmas.{negated_value, Satisfies-append, Satisfies-parts}
 use Rattle.sat_core.specs.Assignment.{assignment}
 use Rattle.sat_link.specs.Encoding.{encoded, clauses_of, clauses_from, definitions}
 use Rattle.sat_link.specs.Definitional.{IsDefinitional, IsWhole}
@@ -25,15 +27,6 @@ variable_value values n = ap (value_at values) (before_next n)
 pub encoded_value : (values : List Bool) (l : GateLiteral) → literal_value (assignment values) (encoded l) ≡ value_of values l
 unfolding value_of
 encoded_value values l = ap (λ b. cond l.negative (not b) b) (variable_value values l.node)
-
-negated_value : (v : ℕ → Bool) (l : Literal) → literal_value v (negated l) ≡ not (literal_value v l)
-negated_value v l = by l.negative (v l.var)
-  where
-    by : (s x : Bool) → cond (not s) (not x) x ≡ not (cond s (not x) x)
-    by true true = refl
-    by true false = refl
-    by false true = refl
-    by false false = refl
 
 negated_encoded_value : (values : List Bool) (l : GateLiteral) → literal_value (assignment values) (negated (encoded l)) ≡ not (value_of values l)
 negated_encoded_value values l = negated_value (assignment values) (encoded l) ∙ ap not (encoded_value values l)
@@ -70,24 +63,12 @@ node_satisfied values n True h = ((ap (λ b. b || false) (variable_value values 
 node_satisfied values n Input h = tt
 node_satisfied values n (And a b) h = transport (sym (joined_values values n a b)) (joined_from _ _ _ h)
 
-or_false : (b : Bool) → b || false ≡ b
-or_false true = refl
-or_false false = refl
-
 satisfied_node : (values : List Bool) (n : ℕ) (y : Node) → Satisfies (assignment values) (clauses_of n y) → MayBe values y (value_at values n)
-satisfied_node values n True h = sym (variable_value values n) ∙ sym (or_false _) ∙ h.0
+satisfied_node values n True h = sym (variable_value values n) ∙ sym (or-false _) ∙ h.0
 satisfied_node values n Input h = tt
 satisfied_node values n (And a b) h = from_joined _ _ _ (transport (joined_values values n a b) h)
 
 -- The clauses of all nodes.
-
-Satisfies-append : (v : ℕ → Bool) (cs ds : List (List Literal)) → Satisfies v cs → Satisfies v ds → Satisfies v (cs ++ ds)
-Satisfies-append v [] ds h k = k
-Satisfies-append v (c ∷ cs) ds h k = (h.0, Satisfies-append v cs ds h.1 k)
-
-pub Satisfies-parts : (v : ℕ → Bool) (cs ds : List (List Literal)) → Satisfies v (cs ++ ds) → Satisfies v cs × Satisfies v ds
-Satisfies-parts v [] ds h = (tt, h)
-Satisfies-parts v (c ∷ cs) ds h = let rest = Satisfies-parts v cs ds h.1 in ((h.0, rest.0), rest.1)
 
 -- each of the nodes has a value that it may have, where the first has the number n
 abbrev MayBeFrom : List Bool → ℕ → List Node → Type 0

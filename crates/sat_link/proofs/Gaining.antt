@@ -1,14 +1,21 @@
 -- What a log gains where originals are added before a search.
-use Rattle.std.proofs.Common.{◌≡◌, ◌≢◌, List, [], ◌∷◌, ◌++◌, length, drop, refl, sym, ap, subst, ◌∙◌, append_assoc}
+use Rattle.std.proofs.Common.{◌≡◌, ◌≢◌, ◌<◌, ◌^◌, ℕ, zero, suc, List, [], ◌∷◌, ◌++◌, length, drop, refl, sym, ap, subst, ◌∙◌, append_assoc, length-append, arith}
+use Rattle.std.proofs.Math.Nat.{pow-suc}
 use Rattle.std.specs.Prelude.{option_to_list}
 use Rattle.std.specs.List.{AllByRecursion}
 use Rattle.std.proofs.Math.Seq.{drop-append_seam}
-use Rattle.std.proofs.lemmas.List.{append-nil}
-use Rattle.sat_log.specs.Learned.{learned, conflicts as conflict_clauses}
+use Rattle.std.proofs.lemmas.List.{append-nil, drop_all}
+use Rattle.sat_log.specs.Literal.{Literal}
+use Rattle.sat_log.specs.Accepted.{IsLog}
+use Rattle.sat_log.specs.Learned.{IsFreshOfKind, AllFresh, learned, conflicts as conflict_clauses}
 use Rattle.sat_log.specs.declared.line.LineKind.{LineKind}
 use Rattle.sat_log.specs.declared.line.LineKind.TheVariants.{Original, Conflict, Final}
 use Rattle.sat_log.specs.declared.line.LogLine.{LogLine}
-use Rattle.sat_core.specs.Gained.{gained, IsLonger, conflicts, HasNoFinal, IsLearned, AreLearned}
+use Rattle.sat_core.specs.Gained.{gained, IsLonger, conflicts, HasNoFinal, IsLearned, AreLearned, IsRefusal}
+use Rattle.sat_core.specs.Gains.{Outcome, found, refuted, spent, stopped, EndsAs, Gains}
+use Rattle.sat_core.specs.Verdicts.{IsBelow, IsWithin}
+use Rattle.sat_core.specs.declared.budget.Budget.{Budget}
+use Rattle.sat_core.specs.declared.budget.Budget.TheVariants.{Unset, Of}
 use Rattle.sat_link.specs.Contents.{AddsOriginals}
 
 original_not : (k other : LineKind) → k ≡ Original → Original ≢ other → k ≢ other
@@ -37,22 +44,32 @@ are_learned before [] more h l = subst (λ ls. AreLearned ls more) (append-nil b
 are_learned before (line ∷ added) more h l =
     (learned_original before line h.0, are_learned (before ++ line ∷ []) added more h.1 (subst (λ ls. AreLearned ls more) (sym (append_assoc before (line ∷ []) added)) l))
 
-pub learned_after : (old mid new : List LogLine) → AddsOriginals old mid → IsLonger mid new → AreLearned mid (gained mid new) → AreLearned old (gained old new)
+learned_after : (old mid new : List LogLine) → AddsOriginals old mid → IsLonger mid new → AreLearned mid (gained mid new) → AreLearned old (gained old new)
 learned_after old mid new adds longer l =
     subst (AreLearned old) (sym (gained_after old mid new adds longer))
     (are_learned old adds.added (gained mid new) adds.all_originals (subst (λ ls. AreLearned ls (gained mid new)) adds.longer l))
 
-pub learned_only : (old mid : List LogLine) → AddsOriginals old mid → AreLearned old (gained old mid)
-learned_only old mid adds =
-    let same : gained old mid ≡ adds.added = ap (drop (length old)) adds.longer ∙ drop-append_seam old adds.added in
-    subst (AreLearned old) (append-nil adds.added ∙ sym same) (are_learned old adds.added [] adds.all_originals tt)
+are_fresh : (before added more : List LogLine) → AllByRecursion (λ line. line.kind ≡ Original) added → AllFresh (before ++ added) more → AllFresh before (added ++ more)
+are_fresh before [] more h f = subst (λ ls. AllFresh ls more) (append-nil before) f
+are_fresh before (line ∷ added) more h f =
+    (subst (λ k. IsFreshOfKind k before line.lits) (sym h.0) tt, are_fresh (before ++ line ∷ []) added more h.1 (subst (λ ls. AllFresh ls more) (sym (append_assoc before (line ∷ []) added)) f))
+
+fresh_after : (old mid new : List LogLine) → AddsOriginals old mid → IsLonger mid new → AllFresh mid (gained mid new) → AllFresh old (gained old new)
+fresh_after old mid new adds longer f =
+    subst (AllFresh old) (sym (gained_after old mid new adds longer))
+    (are_fresh old adds.added (gained mid new) adds.all_originals (subst (λ ls. AllFresh ls (gained mid new)) adds.longer f))
+
+longer_after : (old mid new : List LogLine) → AddsOriginals old mid → IsLonger mid new → IsLonger old new
+longer_after old mid new adds longer =
+    longer ∙ ap (λ ls. ls ++ gained mid new) adds.longer ∙ append_assoc old adds.added (gained mid new)
+    ∙ ap (λ ls. old ++ ls) (sym (gained_after old mid new adds longer))
 
 no_conflicts : (added more : List LogLine) → AllByRecursion (λ line. line.kind ≡ Original) added → conflicts (added ++ more) ≡ conflicts more
 no_conflicts [] more h = refl
 no_conflicts (line ∷ added) more h =
     ap (λ k. length (option_to_list (learned k line.lits) ++ conflict_clauses (added ++ more))) h.0 ∙ no_conflicts added more h.1
 
-pub conflicts_after : (old mid new : List LogLine) → AddsOriginals old mid → IsLonger mid new → conflicts (gained mid new) ≡ conflicts (gained old new)
+conflicts_after : (old mid new : List LogLine) → AddsOriginals old mid → IsLonger mid new → conflicts (gained mid new) ≡ conflicts (gained old new)
 conflicts_after old mid new adds longer =
     sym (ap conflicts (gained_after old mid new adds longer) ∙ no_conflicts adds.added (gained mid new) adds.all_originals)
 
@@ -60,6 +77,67 @@ no_final : (added more : List LogLine) → AllByRecursion (λ line. line.kind �
 no_final [] more h n = n
 no_final (line ∷ added) more h n = (original_not line.kind Final h.0 original_apart', no_final added more h.1 n)
 
-pub no_final_after : (old mid new : List LogLine) → AddsOriginals old mid → IsLonger mid new → HasNoFinal (gained mid new) → HasNoFinal (gained old new)
+no_final_after : (old mid new : List LogLine) → AddsOriginals old mid → IsLonger mid new → HasNoFinal (gained mid new) → HasNoFinal (gained old new)
 no_final_after old mid new adds longer n =
     subst HasNoFinal (sym (gained_after old mid new adds longer)) (no_final adds.added (gained mid new) adds.all_originals n)
+
+-- What a search ends with, it ends with after originals.
+
+refusal_after : (old mid new : List LogLine) (want : List Literal) (id : ℕ) → AddsOriginals old mid → IsRefusal mid new want id → IsRefusal old new want id
+refusal_after old mid new want id adds r = record {
+  line = r.line;
+  stands = r.stands;
+  last = r.last;
+  is_gained = omega (arith, r.is_gained, ap length adds.longer, length-append old adds.added);
+  final = r.final;
+  literals = r.literals;
+}
+
+ends_after : (budget : Budget) (want : List Literal) (old mid new : List LogLine) (end : Outcome) → AddsOriginals old mid → IsLonger mid new → EndsAs budget want mid new end → EndsAs budget want old new end
+ends_after budget want old mid new found adds longer h =
+    (no_final_after old mid new adds longer h.0, subst (IsBelow budget) (conflicts_after old mid new adds longer) h.1)
+ends_after budget want old mid new (refuted id) adds longer h =
+    (refusal_after old mid new want id adds h.0, subst (IsBelow budget) (conflicts_after old mid new adds longer) h.1)
+ends_after budget want old mid new (spent n) adds longer h =
+    (no_final_after old mid new adds longer h.0, h.1, sym (conflicts_after old mid new adds longer) ∙ h.2)
+ends_after budget want old mid new stopped adds longer h =
+    (no_final_after old mid new adds longer h.0, subst (IsWithin budget) (conflicts_after old mid new adds longer) h.1)
+
+pub gains_after : (variables : ℕ) (budget : Budget) (want : List Literal) (old mid new : List LogLine) (end : Outcome) → AddsOriginals old mid → Gains variables budget want mid new end → Gains variables budget want old new end
+gains_after variables budget want old mid new end adds g = record {
+  longer = longer_after old mid new adds g.longer;
+  is_log = g.is_log;
+  learned = learned_after old mid new adds g.longer g.learned;
+  fresh = fresh_after old mid new adds g.longer g.fresh;
+  few = subst (λ n. n < 3 ^ variables) (conflicts_after old mid new adds g.longer) g.few;
+  ends = ends_after budget want old mid new end adds g.longer g.ends;
+}
+
+-- Memory was refused before the search.
+
+power_positive : (n : ℕ) → 0 < 3 ^ n
+power_positive zero = omega arith
+power_positive (suc n) = omega (arith, pow-suc 3 n, power_positive n)
+
+within_none : (budget : Budget) → IsWithin budget 0
+within_none Unset = tt
+within_none (Of most) = omega arith
+
+nothing_gained : (log : List LogLine) → gained log log ≡ []
+nothing_gained log = drop_all (length log) log (omega arith)
+
+gains_none : (variables : ℕ) (budget : Budget) (want : List Literal) (log : List LogLine) → IsLog log → Gains variables budget want log log stopped
+gains_none variables budget want log h =
+    let none = sym (nothing_gained log) in
+    record {
+      longer = sym (append-nil log) ∙ ap (λ ls. log ++ ls) none;
+      is_log = h;
+      learned = subst (AreLearned log) none tt;
+      fresh = subst (AllFresh log) none tt;
+      few = subst (λ ls. conflicts ls < 3 ^ variables) none (power_positive variables);
+      ends = (subst HasNoFinal none tt, subst (λ ls. IsWithin budget (conflicts ls)) none (within_none budget));
+    }
+
+pub gains_only : (variables : ℕ) (budget : Budget) (want : List Literal) (old mid : List LogLine) → AddsOriginals old mid → IsLog mid → Gains variables budget want old mid stopped
+gains_only variables budget want old mid adds h =
+    gains_after variables budget want old mid mid stopped adds (gains_none variables budget want mid h)

@@ -1,11 +1,12 @@
 -- What is asked over gates, and what the answers say.
-use Rattle.std.specs.Prelude.{◌≡◌, ◌≢◌, ℕ, Bool, Result, Ok, Err, List, [], ◌∷◌, length, IsTrue}
+use Rattle.std.specs.Prelude.{◌≡◌, ◌≢◌, ℕ, Bool, Result, Ok, Err, List, [], ◌∷◌, length, take, IsTrue}
 use Rattle.std.specs.List.{AllByRecursion}
 use Rattle.gates.specs.Literal.{Literal}
 use Rattle.gates.specs.declared.node.Node.{Node}
 use Rattle.gates.specs.Valuation.{value_of, IsValuation}
 use Rattle.sat_core.specs.declared.verdict.Verdict.{Verdict as Found}
-use Rattle.sat_core.specs.declared.verdict.Verdict.TheVariants as found
+use Rattle.sat_core.specs.declared.verdict.Verdict.TheVariants as answer
+use Rattle.sat_core.specs.Gains.{Outcome, found, refuted, spent, stopped}
 use Rattle.sat_link.specs.declared.verdict.Verdict.{Verdict}
 use Rattle.sat_link.specs.declared.verdict.Verdict.TheVariants.{Yes, No, Spent}
 
@@ -42,21 +43,29 @@ IfNo (Ok (No id)) P = P id
 IfNo (Ok (Spent n)) P = Unit {0}
 IfNo (Err e) P = Unit {0}
 
--- what holds of the number of a Spent
-abbrev pub IfSpent : {E : Type 0} → Result Verdict E → (ℕ → Type 0) → Type 0
-IfSpent (Ok (Yes bits)) P = Unit {0}
-IfSpent (Ok (No id)) P = Unit {0}
-IfSpent (Ok (Spent n)) P = P n
-IfSpent (Err e) P = Unit {0}
+-- what an answer says of how the search ended
+abbrev pub outcome : {E : Type 0} → Result Verdict E → Outcome
+outcome (Ok (Yes bits)) = found
+outcome (Ok (No id)) = refuted id
+outcome (Ok (Spent n)) = spent n
+outcome (Err e) = stopped
 
--- the solver's answer over variables, as one over nodes
-abbrev pub answered : Found → Verdict
-answered (found.Yes bits) = Yes bits
-answered (found.No id) = No id
-answered (found.Spent n) = Spent n
-
--- the truth values of a Yes are those of nodes
+-- the truth values of a Yes are those of nodes, and maybe of one variable more
 abbrev pub IsValued : List Node → Found → Type 0
-IsValued nodes (found.Yes bits) = (length bits ≡ length nodes) × IsValuation nodes bits
-IsValued nodes (found.No id) = Unit {0}
-IsValued nodes (found.Spent n) = Unit {0}
+IsValued nodes (answer.Yes bits) = IsValuation nodes bits
+IsValued nodes (answer.No id) = Unit {0}
+IsValued nodes (answer.Spent n) = Unit {0}
+
+-- the truth values of the nodes are the first of these
+pub record AreFirst (nodes : List Node) (bits values : List Bool) : Type 0 where
+  pub first : values ≡ take (length nodes) bits
+  pub one_each : length values ≡ length nodes
+  pub valuation : IsValuation nodes values
+
+-- An answer over nodes says the same as one over variables, but that memory may be refused for truth values.
+abbrev pub Tells : {E : Type 0} → List Node → Found → Result Verdict E → Type 0
+Tells nodes (answer.Yes bits) (Ok (Yes values)) = AreFirst nodes bits values
+Tells nodes (answer.Yes bits) (Err e) = Unit {0}
+Tells nodes (answer.No id) (Ok (No id')) = id' ≡ id
+Tells nodes (answer.Spent n) (Ok (Spent n')) = n' ≡ n
+Tells nodes other result = ⊥

@@ -1,15 +1,15 @@
-ghost use Rattle.std.specs.Prelude.{◌≡◌, length, IfOk};
+ghost use Rattle.std.specs.Prelude.{IfOk};
 ghost use Rattle.gates.specs.Valuation.{IsValuation};
+ghost use Rattle.sat_link.specs.Answers.{AreFirst};
 
 use gates::{Bits, Gates, Truths};
 use sat_core::SBits;
 use std::alloc::{AllocError, Global};
 
-/// The truth values of nodes, from those of their variables.
+/// The truth values of nodes, which are the first of those of the variables.
 pub(crate) fn bits_of(alloc: Global, g: &Gates, values: &SBits) -> Result<Bits, AllocError>
-    requires one_each { length values.now ≡ length g.now }
-    requires valuation { IsValuation g.now values.now }
-    ensures { IfOk result (λ bits. bits ≡ values.now) }
+    requires { IsValuation g.now values.now }
+    ensures { IfOk result (AreFirst g.now values.now) }
 {
     let nodes = g.nodes();
     let mut inputs = Vec::with_capacity(alloc, nodes as usize)?;

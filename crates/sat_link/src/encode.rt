@@ -1,10 +1,8 @@
-ghost use Rattle.std.specs.Prelude.{◌≡◌, ℕ, ◌+◌, ◌^◌, ◌<◌, ◌≤◌, ◌++◌, [], ◌∷◌, length, drop, slice_index_or, IfOk, OnOk, OnErr};
+ghost use Rattle.std.specs.Prelude.{◌≡◌, ◌+◌, ◌^◌, ◌<◌, ◌≤◌, ◌++◌, map, IfOk, OnOk, OnErr};
 ghost use Rattle.gates.specs.Literal.{span};
 ghost use Rattle.gates.specs.Nodes.{StandsAt};
-ghost use Rattle.sat_log.specs.Accepted.{originals};
 ghost use Rattle.sat_log.specs.Kept.{original};
 ghost use Rattle.sat_link.specs.Encoding.{encoded, all_encoded, joint_clauses, clauses_of};
-ghost use Rattle.sat_link.specs.Contents.{AddsOriginals};
 
 use gates::{Lit, Lits, Node};
 use sat_core::Solver;
@@ -31,92 +29,55 @@ pub(crate) fn encode_all(alloc: Global, ls: &Lits) -> Result<SLits, AllocError>
     Ok(all)
 }
 
-/// How many clauses define a node.
-fn count_clauses(node: &Node) -> usize
-    ensures { (n : ℕ) → result ≡ length (clauses_of n node.now) }
+/// The clauses that define the conjunction of two literals (Tseitin 1968).
+fn and_clauses(alloc: Global, this: SLit, a: SLit, b: SLit) -> Result<Vec<SLits>, AllocError>
+    ensures { IfOk result (λ cs. cs.items ≡ joint_clauses this a b) }
 {
-    match *node {
-        Node::True => 1,
-        Node::Input => 0,
-        Node::And(_, _) => 3,
-    }
+    let first = SLits::from_slice(alloc, &[this.negated(), a])?;
+    let second = SLits::from_slice(alloc, &[this.negated(), b])?;
+    let both = SLits::from_slice(alloc, &[this, a.negated(), b.negated()])?;
+    Ok(vec![in alloc; first, second, both]?)
 }
 
-/// The clause at a place of those that define the conjunction of two literals (Tseitin 1968).
-fn and_clause(
-    alloc: Global,
-    this: SLit,
-    a: SLit,
-    b: SLit,
-    place: usize,
-) -> Result<SLits, AllocError>
-    requires { place < 3 }
-    ensures { IfOk result (λ c. c ≡ slice_index_or (joint_clauses this a b) place []) }
-{
-    match place {
-        0 => SLits::from_slice(alloc, &[this.negated(), a]),
-        1 => SLits::from_slice(alloc, &[this.negated(), b]),
-        _ => SLits::from_slice(alloc, &[this, a.negated(), b.negated()]),
-    }
-}
-
-/// The clause at a place of those that define a node.
-fn clause(alloc: Global, n: u64, node: &Node, place: usize) -> Result<SLits, AllocError>
+/// The clauses that define a node.
+fn clauses(alloc: Global, n: u64, node: &Node) -> Result<Vec<SLits>, AllocError>
     requires stands { StandsAt n node.now }
     requires fits { n + 1 < 2 ^ 63 }
-    requires place { place < length (clauses_of n node.now) }
-    ensures { IfOk result (λ c. c ≡ slice_index_or (clauses_of n node.now) place []) }
+    ensures { IfOk result (λ cs. cs.items ≡ clauses_of n node.now) }
 {
     let this = encode(Lit::positive(n));
     match *node {
-        Node::True => SLits::from_slice(alloc, &[this]),
-        Node::Input => SLits::from_slice(alloc, &[this]),
-        Node::And(a, b) => and_clause(alloc, this, encode(a), encode(b), place),
+        Node::True => Ok(vec![in alloc; SLits::from_slice(alloc, &[this])?]?),
+        Node::Input => Ok(Vec::new(alloc)),
+        Node::And(a, b) => and_clauses(alloc, this, encode(a), encode(b)),
     }
 }
 
-/// Adds the clause at a place of those that define a node.
-fn add_clause_at(
-    alloc: Global,
-    solver: &mut Solver,
-    n: u64,
-    node: &Node,
-    place: usize,
-) -> Result<(), AllocError>
+/// Adds the variable of node `n` where it lacks.
+fn add_variable(solver: &mut Solver, n: u64) -> Result<(), AllocError>
+    requires next { n ≤ solver.old.variables }
+    ensures exists { OnOk result (n < solver.new.variables) }
+    ensures stays { n ≤ solver.new.variables }
+    ensures log { solver.new.log ≡ solver.old.log }
+{
+    if n < solver.variables() {
+        return Ok(());
+    }
+    let _variable = solver.new_var()?;
+    Ok(())
+}
+
+/// Adds the clauses of node `n`: all of them, or none.
+pub(crate) fn define(alloc: Global, solver: &mut Solver, n: u64, node: &Node) -> Result<(), AllocError>
     requires stands { StandsAt n node.now }
     requires fits { n + 1 < 2 ^ 63 }
-    requires exists { n < solver.old.variables }
-    requires place { place < length (clauses_of n node.now) }
-    ensures ok { OnOk result (solver.new.log ≡ solver.old.log ++ original (slice_index_or (clauses_of n node.now) place []) ∷ []) }
+    requires next { n ≤ solver.old.variables }
+    ensures exists { OnOk result (n < solver.new.variables) }
+    ensures stays { n ≤ solver.new.variables }
+    ensures ok { OnOk result (solver.new.log ≡ solver.old.log ++ map original (clauses_of n node.now)) }
     ensures err { OnErr result (solver.new.log ≡ solver.old.log) }
-    ensures variables { solver.new.variables ≡ solver.old.variables }
 {
-    let clause = clause(alloc, n, node, place)?;
-    solver.add_clause(&clause)?;
-    Ok(())
-}
-
-/// Adds those clauses of a node that lack; `added` counts those that are there.
-pub(crate) fn add_clauses(
-    alloc: Global,
-    solver: &mut Solver,
-    n: u64,
-    node: &Node,
-    added: &mut usize,
-) -> Result<(), AllocError>
-    requires stands { StandsAt n node.now }
-    requires fits { n + 1 < 2 ^ 63 }
-    requires exists { n < solver.old.variables }
-    requires added { added.old ≤ length (clauses_of n node.now) }
-    ensures all { OnOk result (added.new ≡ length (clauses_of n node.now)) }
-    ensures within { added.new ≤ length (clauses_of n node.now) }
-    ensures clauses { originals solver.new.log ++ drop added.new (clauses_of n node.now) ≡ originals solver.old.log ++ drop added.old (clauses_of n node.now) }
-    ensures variables { solver.new.variables ≡ solver.old.variables }
-    ensures log { AddsOriginals solver.old.log solver.new.log }
-{
-    while *added < count_clauses(node) {
-        add_clause_at(alloc, solver, n, node, *added)?;
-        *added += 1;
-    }
-    Ok(())
+    add_variable(solver, n)?;
+    let clauses = clauses(alloc, n, node)?;
+    solver.add_clauses(clauses.as_slice())
 }

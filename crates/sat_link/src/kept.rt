@@ -1,18 +1,18 @@
-ghost use Rattle.std.specs.Prelude.{◌≡◌, ◌+◌, ◌++◌, ◌∷◌, [], length, count_by, IfOk, OnOk, OnErr};
+ghost use Rattle.std.specs.Prelude.{◌≡◌, ◌+◌, ◌++◌, ◌∷◌, ◌≤◌, [], length, count_by, IfOk, OnOk, OnErr};
 ghost use Rattle.gates.specs.Nodes.{StandsAt, WellFormed, Grows, AllBelong, is_conjunction};
 ghost use Rattle.sat_log.specs.Clause.{HasDistinctVariables};
 ghost use Rattle.sat_log.specs.Checking.{IsUpTo};
 ghost use Rattle.sat_log.specs.Accepted.{originals};
 ghost use Rattle.sat_core.specs.Assignment.{IsSolution as IsAssignment, HasNoSolution as HasNoAssignment};
-ghost use Rattle.sat_core.specs.Gained.{gained, conflicts, IsLonger, HasNoFinal, AreLearned, IsRefusal};
-ghost use Rattle.sat_core.specs.Verdicts.{IfYes as IfFoundYes, IfNo as IfFoundNo, IfSpent as IfFoundSpent, IsBelow};
-ghost use Rattle.sat_link.specs.Encoding.{all_encoded, definitions};
+ghost use Rattle.sat_core.specs.Gains.{Gains, outcome as outcome_found};
+ghost use Rattle.sat_core.specs.Verdicts.{IfYes as IfFoundYes, IfNo as IfFoundNo};
+ghost use Rattle.sat_link.specs.Encoding.{all_encoded};
 ghost use Rattle.sat_link.specs.Definitional.{IsDefinitional, IsWhole};
-ghost use Rattle.sat_link.specs.Contents.{AddsOriginals, GrowsTowards};
-ghost use Rattle.sat_link.specs.Answers.{HasDistinctNodes, IsSolution, HasNoSolution, IfYes, IfNo, IfSpent, answered, IsValued};
+ghost use Rattle.sat_link.specs.Contents.{HasDefinitions, AddsOriginals, GrowsTowards};
+ghost use Rattle.sat_link.specs.Answers.{HasDistinctNodes, IsSolution, HasNoSolution, IfYes, IfNo, IsValued, Tells, outcome};
 
 use crate::bits::bits_of;
-use crate::encode::{add_clauses, encode_all};
+use crate::encode::{define, encode_all};
 use crate::{Counts, Verdict};
 use gates::{Gates, Lits, Node};
 use sat_core::{Budget, Solver, Verdict as Found};
@@ -25,10 +25,8 @@ use std::marker::Model;
 pub struct Kept {
     alloc: Global,
     solver: Solver,
-    /// The nodes that have their clauses, but that after want of memory the last one may lack some.
+    /// The nodes that have their clauses.
     nodes: Vec<Node>,
-    /// How many clauses of the last node were added.
-    added: usize,
 }
 
 impl Model for Kept {
@@ -36,9 +34,9 @@ impl Model for Kept {
 
     ghost Value = { Contents };
 
-    ghost view = { λ k. record { nodes = k.nodes.items; log = k.solver.log } };
+    ghost view = { λ k. record { variables = k.solver.variables; nodes = k.nodes.items; log = k.solver.log } };
 
-    ghost invariant = { λ k. KeepsClauses k.nodes.items k.added k.solver };
+    ghost invariant = { λ k. KeepsClauses k.nodes.items k.solver };
 }
 
 impl Kept {
@@ -48,70 +46,48 @@ impl Kept {
     ///
     /// `AllocError` where memory is refused.
     pub fn new(alloc: Global) -> Result<Kept, AllocError>
-        ensures { IfOk result (λ k. k ≡ record { nodes = []; log = [] }) }
+        ensures { IfOk result (λ k. k ≡ record { variables = 0; nodes = []; log = [] }) }
     {
         Ok(Kept {
             alloc,
             solver: Solver::new(alloc)?,
             nodes: Vec::new(alloc),
-            added: 0,
         })
     }
 
     /// How many nodes have their clauses.
     fn nodes(&self) -> u64
-        ensures { result ≡ length self.now.nodes }
+        ensures count { result ≡ length self.now.nodes }
+        ensures kept { HasDefinitions self.now }
     {
         self.nodes.len() as u64
     }
 
-    /// Adds the clauses that the last node lacks.
-    fn complete(&mut self) -> Result<(), AllocError>
-        ensures all { OnOk result (originals self.new.log ≡ definitions self.new.nodes) }
-        ensures nodes { self.new.nodes ≡ self.old.nodes }
-        ensures log { AddsOriginals self.old.log self.new.log }
-        ensures definitional { IsDefinitional self.new.nodes (originals self.new.log) }
-    {
-        let count = self.nodes.len();
-        if count == 0 {
-            return Ok(());
-        }
-        add_clauses(
-            self.alloc,
-            &mut self.solver,
-            count as u64 - 1,
-            &self.nodes[count - 1],
-            &mut self.added,
-        )
-    }
-
-    /// Adds a node that has no clauses yet.
-    fn begin(&mut self, node: Node) -> Result<(), AllocError>
-        requires stands { StandsAt (length self.old.nodes) node }
-        requires all { originals self.old.log ≡ definitions self.old.nodes }
+    /// Gives the next node its clauses: all of them, or none.
+    fn define_next(&mut self, node: Node) -> Result<(), AllocError>
+        requires { StandsAt (length self.old.nodes) node }
         ensures ok { OnOk result (self.new.nodes ≡ self.old.nodes ++ node ∷ []) }
         ensures err { OnErr result (self.new.nodes ≡ self.old.nodes) }
-        ensures log { self.new.log ≡ self.old.log }
+        ensures log { AddsOriginals self.old.log self.new.log }
+        ensures kept { HasDefinitions self.new }
     {
         self.nodes.reserve(1)?;
-        self.solver.new_var()?;
+        let n = self.nodes.len() as u64;
+        define(self.alloc, &mut self.solver, n, &node)?;
         self.nodes.push(node).unwrap();
-        self.added = 0;
         Ok(())
     }
 
     /// Gives each node of the gates its clauses.
-    fn define(&mut self, g: &Gates) -> Result<(), AllocError>
-        requires prefix { Grows self.old.nodes g.now }
+    fn define_all(&mut self, g: &Gates) -> Result<(), AllocError>
+        requires { Grows self.old.nodes g.now }
         ensures nodes { OnOk result (self.new.nodes ≡ g.now) }
-        ensures all { OnOk result (originals self.new.log ≡ definitions g.now) }
         ensures towards { GrowsTowards g.now self.old self.new }
-        ensures well_formed { OnOk result (WellFormed g.now) }
+        ensures kept { HasDefinitions self.new }
+        ensures well_formed { WellFormed g.now }
     {
-        self.complete()?;
         for n in self.nodes()..g.nodes() {
-            self.begin(g.node(n))?;
-            self.complete()?;
+            self.define_next(g.node(n))?;
         }
         Ok(())
     }
@@ -120,22 +96,16 @@ impl Kept {
     fn search(&mut self, want: &SLits, budget: Budget) -> Result<Found, AllocError>
         requires distinct { HasDistinctVariables want.now }
         requires exist { IsUpTo (length self.old.nodes) want.now }
-        ensures yes { IfFoundYes result (IsAssignment (length self.new.nodes) self.new.log want.now) }
-        ensures no { IfFoundNo result (IsRefusal self.old.log self.new.log want.now) }
+        ensures yes { IfFoundYes result (IsAssignment self.new.variables self.new.log want.now) }
+        ensures enough { length self.new.nodes ≤ self.new.variables }
         ensures refuted { IfFoundNo result (λ _. HasNoAssignment self.new.log want.now) }
-        ensures spent { IfFoundSpent result (λ n. budget ≡ Budget.Of n) }
-        ensures spent_all { IfFoundSpent result (λ n. conflicts (gained self.old.log self.new.log) ≡ n) }
-        ensures yes_within { IfFoundYes result (λ _. IsBelow budget (conflicts (gained self.old.log self.new.log))) }
-        ensures no_within { IfFoundNo result (λ _. IsBelow budget (conflicts (gained self.old.log self.new.log))) }
-        ensures longer { IsLonger self.old.log self.new.log }
-        ensures learned { AreLearned self.old.log (gained self.old.log self.new.log) }
-        ensures yes_final { IfFoundYes result (λ _. HasNoFinal (gained self.old.log self.new.log)) }
-        ensures spent_final { IfFoundSpent result (λ _. HasNoFinal (gained self.old.log self.new.log)) }
+        ensures gains { Gains self.new.variables budget want.now self.old.log self.new.log (outcome_found result) }
         ensures nodes { self.new.nodes ≡ self.old.nodes }
-        ensures originals { originals self.new.log ≡ originals self.old.log }
+        ensures kept { HasDefinitions self.new }
     {
         self.solver.solve(want, budget)
     }
+
     /// Says whether all literals of `want` can be true together.
     ///
     /// Nodes without clauses get them first. What is wanted is assumed and is no clause, so the answer to
@@ -144,34 +114,25 @@ impl Kept {
     /// # Errors
     ///
     /// `AllocError` where memory is refused; some nodes more may have their clauses, and the log may have
-    /// gained lines that follow from the others.
+    /// gained conflict lines, within the budget.
     pub fn ask(&mut self, g: &Gates, want: &Lits, budget: Budget) -> Result<Verdict, AllocError>
         requires distinct { HasDistinctNodes want.now }
         requires exist { AllBelong g.now want.now }
         requires prefix { Grows self.old.nodes g.now }
         // What is answered.
         ensures yes { IfYes result (IsSolution g.now want.now) }
-        ensures no { IfNo result (IsRefusal self.old.log self.new.log (all_encoded want.now)) }
         ensures refuted { IfNo result (λ _. HasNoSolution g.now want.now) }
-        ensures spent { IfSpent result (λ n. budget ≡ Budget.Of n) }
-        ensures spent_all { IfSpent result (λ n. conflicts (gained self.old.log self.new.log) ≡ n) }
-        // Where a budget is set, the other two answers come before it is spent.
-        ensures yes_within { IfYes result (λ _. IsBelow budget (conflicts (gained self.old.log self.new.log))) }
-        ensures no_within { IfNo result (λ _. IsBelow budget (conflicts (gained self.old.log self.new.log))) }
         // What is gained, whatever is answered.
-        ensures longer { IsLonger self.old.log self.new.log }
-        ensures learned { AreLearned self.old.log (gained self.old.log self.new.log) }
-        ensures yes_final { IfYes result (λ _. HasNoFinal (gained self.old.log self.new.log)) }
-        ensures spent_final { IfSpent result (λ _. HasNoFinal (gained self.old.log self.new.log)) }
+        ensures gains { Gains self.new.variables budget (all_encoded want.now) self.old.log self.new.log (outcome result) }
         // Which nodes have their clauses, and that the clauses define them and say no more.
         ensures nodes { OnOk result (self.new.nodes ≡ g.now) }
         ensures grown { Grows self.old.nodes self.new.nodes }
         ensures prefix { Grows self.new.nodes g.now }
-        ensures clauses { OnOk result (originals self.new.log ≡ definitions g.now) }
+        ensures kept { HasDefinitions self.new }
         ensures definitional { IsDefinitional g.now (originals self.new.log) }
         ensures whole { OnOk result (IsWhole g.now (originals self.new.log)) }
     {
-        self.define(g)?;
+        self.define_all(g)?;
         let want = encode_all(self.alloc, want)?;
         let found = self.search(&want, budget)?;
         answer(self.alloc, g, found)
@@ -180,6 +141,7 @@ impl Kept {
     /// The clauses, and what was learned from them.
     pub fn log(&self) -> &Log
         ensures value { result.now ≡ self.now.log }
+        ensures kept { HasDefinitions self.now }
         ensures definitional { IsDefinitional self.now.nodes (originals self.now.log) }
     {
         self.solver.log()
@@ -220,7 +182,7 @@ fn count_gates(nodes: &[Node]) -> u64
 /// The solver's answer over variables, as one over nodes.
 fn answer(alloc: Global, g: &Gates, found: Found) -> Result<Verdict, AllocError>
     requires { IsValued g.now found }
-    ensures { IfOk result (λ v. v ≡ answered found) }
+    ensures { Tells g.now found result }
 {
     match found {
         Found::Yes(values) => {

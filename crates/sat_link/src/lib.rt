@@ -16,5 +16,3 @@ pub use kept::Kept;
 pub use sat_core::Budget;
 pub use verdict::Verdict;
 
-#[cfg(test)]
-mod tests;

@@ -2,39 +2,17 @@
 use Rattle.std.proofs.Common.{◌≡◌, ◌≢◌, ℕ, ◌+◌, ◌*◌, Bool, true, false, not, cond, eqb, ◌||◌, ◌&&◌, ◌⊎◌, inl, inr, List, [], ◌∷◌, ◌++◌, map, refl, ap, sym, subst, ◌∙◌, arith}
 use Rattle.std.specs.Prelude.{Option, Some, None}
 use Rattle.std.specs.List.{AllByRecursion}
-use Rattle.std.proofs.lemmas.Bool.{false≢true, eqb-true, eq-eqb}
+use Rattle.std.proofs.lemmas.Bool.{false≢true, eqb-true, eq-eqb, or_right, and_parts}
 use Rattle.sat_log.specs.Literal.{Literal, negated, packed}
 use Rattle.sat_log.specs.Clause.{Among, HasDistinctVariables, IsUnset, IsFalsified, IsUnit}
 use Rattle.sat_log.specs.Accepted.{clause_at, Refutes, Accepts}
 use Rattle.sat_log.specs.Checking.{is_set, can_assume, look_on, look, look_if, after_look, refutes, accepts}
+use Rattle.sat_log.proofs.LiteralLemmas.{packed_injective, same_variable, among_append, among_front, among_push}
 use Rattle.sat_log.specs.declared.line.LogLine.{LogLine}
 use Rattle.sat_log.specs.declared.marks.Look.{Look}
 use Rattle.sat_log.specs.declared.marks.Look.TheVariants.{Falsified, Propagates, Unresolved}
 
--- Literals are told apart by their numbers.
-
-abbrev pub literal_of : ℕ → Bool → Literal
-literal_of var negative = record { var = var; negative = negative }
-
-pub literal_by_parts : (a b : Literal) → a.var ≡ b.var → a.negative ≡ b.negative → a ≡ b
-literal_by_parts a b v n = ap (λ x. literal_of x a.negative) v ∙ ap (literal_of b.var) n
-
-pub packed_injective : (a b : Literal) → packed a ≡ packed b → a ≡ b
-packed_injective a b e = by_signs a.negative b.negative refl refl
-  where
-    by_signs : (s t : Bool) → a.negative ≡ s → b.negative ≡ t → a ≡ b
-    by_signs true true p q =
-        let x : 2 * a.var + 1 ≡ 2 * b.var + 1 = sym (ap (λ s. 2 * a.var + cond {A = ℕ} s 1 0) p) ∙ e ∙ ap (λ s. 2 * b.var + cond {A = ℕ} s 1 0) q in
-        literal_by_parts a b (omega arith) (p ∙ sym q)
-    by_signs false false p q =
-        let x : 2 * a.var + 0 ≡ 2 * b.var + 0 = sym (ap (λ s. 2 * a.var + cond {A = ℕ} s 1 0) p) ∙ e ∙ ap (λ s. 2 * b.var + cond {A = ℕ} s 1 0) q in
-        literal_by_parts a b (omega arith) (p ∙ sym q)
-    by_signs true false p q =
-        let x : 2 * a.var + 1 ≡ 2 * b.var + 0 = sym (ap (λ s. 2 * a.var + cond {A = ℕ} s 1 0) p) ∙ e ∙ ap (λ s. 2 * b.var + cond {A = ℕ} s 1 0) q in
-        absurd (omega arith)
-    by_signs false true p q =
-        let x : 2 * a.var + 0 ≡ 2 * b.var + 1 = sym (ap (λ s. 2 * a.var + cond {A = ℕ} s 1 0) p) ∙ e ∙ ap (λ s. 2 * b.var + cond {A = ℕ} s 1 0) q in
-        absurd (omega arith)
+-- What is set.
 
 pub among_from_set : (set : List Literal) (l : Literal) → is_set set l ≡ true → Among set l
 among_from_set [] l e = absurd (false≢true e)
@@ -44,15 +22,11 @@ among_from_set (x ∷ set) l e = by_first (eqb (packed x) (packed l)) refl e (am
     by_first true same e rest = inl (packed_injective x l (eqb-true (packed x) (packed l) same))
     by_first false other e rest = inr (rest e)
 
-or_right_true : (a b : Bool) → b ≡ true → a || b ≡ true
-or_right_true true b e = refl
-or_right_true false b e = e
-
 pub set_from_among : (set : List Literal) (l : Literal) → Among set l → is_set set l ≡ true
 set_from_among [] l m = absurd m
 set_from_among (x ∷ set) l (inl same) =
     ap (λ b. b || is_set set l) (eq-eqb (packed x) (packed l) (ap packed same))
-set_from_among (x ∷ set) l (inr m) = or_right_true (eqb (packed x) (packed l)) (is_set set l) (set_from_among set l m)
+set_from_among (x ∷ set) l (inr m) = or_right (eqb (packed x) (packed l)) (is_set set l) (set_from_among set l m)
 
 not_among : (set : List Literal) (l : Literal) → is_set set l ≡ false → ¬ Among set l
 not_among set l e m = false≢true (sym e ∙ set_from_among set l m)
@@ -64,42 +38,7 @@ unset_from set l none = by_value (is_set set l) refl
     by_value true e = absurd (none (among_from_set set l e))
     by_value false e = e
 
-among_push : (set : List Literal) (x l : Literal) → Among (set ++ x ∷ []) l → Among set l ⊎ (x ≡ l)
-among_push [] x l (inl e) = inr e
-among_push [] x l (inr m) = absurd m
-among_push (y ∷ set) x l (inl e) = inl (inl e)
-among_push (y ∷ set) x l (inr m) = by_rest (among_push set x l m)
-  where
-    by_rest : Among set l ⊎ (x ≡ l) → Among (y ∷ set) l ⊎ (x ≡ l)
-    by_rest (inl m) = inl (inr m)
-    by_rest (inr e) = inr e
-
-among_front : (set : List Literal) (x l : Literal) → Among set l → Among (set ++ x ∷ []) l
-among_front [] x l m = absurd m
-among_front (y ∷ set) x l (inl e) = inl e
-among_front (y ∷ set) x l (inr m) = inr (among_front set x l m)
-
-among_last : (set : List Literal) (x : Literal) → Among (set ++ x ∷ []) x
-among_last [] x = inl refl
-among_last (y ∷ set) x = inr (among_last set x)
-
 -- A line's literals can be set false one after another where their variables are distinct.
-
-not-not : (s : Bool) → not (not s) ≡ s
-not-not true = refl
-not-not false = refl
-
-negated-negated : (l : Literal) → negated (negated l) ≡ l
-negated-negated l = literal_by_parts (negated (negated l)) l refl (not-not l.negative)
-
-same_variable : (k l : Literal) → k.var ≡ l.var → (k ≡ l) ⊎ (k ≡ negated l)
-same_variable k l v = by_signs k.negative l.negative refl refl
-  where
-    by_signs : (s t : Bool) → k.negative ≡ s → l.negative ≡ t → (k ≡ l) ⊎ (k ≡ negated l)
-    by_signs true true p q = inl (literal_by_parts k l v (p ∙ sym q))
-    by_signs false false p q = inl (literal_by_parts k l v (p ∙ sym q))
-    by_signs true false p q = inr (literal_by_parts k (negated l) v (p ∙ sym (ap not q)))
-    by_signs false true p q = inr (literal_by_parts k (negated l) v (p ∙ sym (ap not q)))
 
 abbrev AreUnset : List Literal → List Literal → Type 0
 AreUnset set c = AllByRecursion (IsUnset set) c
@@ -109,11 +48,11 @@ AreApart l c = AllByRecursion (λ k. k.var ≢ l.var) c
 
 apart_from_push : (set : List Literal) (l k : Literal) → IsUnset (set ++ negated l ∷ []) k → IsUnset set k × (k.var ≢ l.var)
 apart_from_push set l k (free, free') =
-    ((λ m. free (among_front set (negated l) k m), λ m. free' (among_front set (negated l) (negated k) m)), λ v. by_same (same_variable k l v))
+    ((λ m. free (among_front set (negated l ∷ []) k m), λ m. free' (among_front set (negated l ∷ []) (negated k) m)), λ v. by_same (same_variable k l v))
   where
     by_same : (k ≡ l) ⊎ (k ≡ negated l) → ⊥
-    by_same (inl e) = free' (subst (λ x. Among (set ++ negated l ∷ []) (negated x)) (sym e) (among_last set (negated l)))
-    by_same (inr e) = free (subst (Among (set ++ negated l ∷ [])) (sym e) (among_last set (negated l)))
+    by_same (inl e) = free' (subst (λ x. Among (set ++ negated l ∷ []) (negated x)) (sym e) (among_append set (negated l ∷ []) (negated l) (inl refl)))
+    by_same (inr e) = free (subst (Among (set ++ negated l ∷ [])) (sym e) (among_append set (negated l ∷ []) (negated l) (inl refl)))
 
 push_apart : (set : List Literal) (l k : Literal) → IsUnset set k → k.var ≢ l.var → IsUnset (set ++ negated l ∷ []) k
 push_apart set l k (free, free') ne =
@@ -254,14 +193,10 @@ refutes_true log set (id ∷ []) (c, e, h) =
 refutes_true log set (id ∷ next ∷ ids) (c, u, e, unit, r) =
     ap (λ found. after_look found false (λ u. refutes log (set ++ u ∷ []) (next ∷ ids))) (ap (look_if set) e ∙ unit_look set c u unit) ∙ refutes_true log (set ++ u ∷ []) (next ∷ ids) r
 
-and_true : (a b : Bool) → a && b ≡ true → (a ≡ true) × (b ≡ true)
-and_true true b e = (refl, e)
-and_true false b e = absurd (false≢true e)
-
 -- what the check answers true is accepted
 pub accepts_sound : (log : List LogLine) (line : LogLine) → accepts log line ≡ true → Accepts log line
 accepts_sound log line e =
-    let both = and_true (can_assume [] line.lits) (refutes log (map negated line.lits) line.hints) e in
+    let both = and_parts (can_assume [] line.lits) (refutes log (map negated line.lits) line.hints) e in
     record {
       distinct = (assumable_distinct [] line.lits both.0).0;
       refuted = refuted log (map negated line.lits) line.hints both.1;

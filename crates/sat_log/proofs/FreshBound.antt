@@ -1,32 +1,23 @@
--- Fresh conflict lines over n variables are at most 3 ^ n.
-use Rattle.std.proofs.Common.{◌≡◌, ◌≤◌, ◌<◌, ◌+◌, ◌*◌, ◌^◌, ℕ, zero, suc, Bool, true, false, cond, eqb, inl, inr, List, [], ◌∷◌, ◌++◌, map, length, refl, sym, ap, subst, ◌∙◌, append_assoc, ⊎_elim, arith}
-use Rattle.std.specs.Prelude.{option_to_list}
+-- Fresh conflict lines over n variables are fewer than 3 ^ n.
+use Rattle.std.proofs.Common.{◌≡◌, ◌≤◌, ◌<◌, ◌+◌, ◌*◌, ◌^◌, ℕ, zero, suc, Bool, true, false, cond, eqb, inl, inr, List, [], ◌∷◌, ◌++◌, map, length, refl, sym, ap, subst, ◌∙◌, append_assoc, ◌⊎◌, ◌-◌, ⊎_elim, arith}
+use Rattle.std.specs.Prelude.{Option, None, Some, option_to_list, slice_get}
+use Rattle.std.specs.Option.{option_and_then}
 use Rattle.std.specs.List.{AllByRecursion, IsDistinct, list_any}
 use Rattle.std.proofs.Math.Nat.{pow-suc}
 use Rattle.std.proofs.lemmas.Bool.{eqb-true, ne_eqb, or_cases, cases_eq}
 use Rattle.std.proofs.lemmas.List.{append-nil, length-map}
 use Rattle.std.proofs.lemmas.Map.Steps.{length-le_from_distinct_below}
-use Rattle.sat_log.specs.Literal.{Literal}
+use Rattle.sat_log.specs.Literal.{Literal, negated}
 use Rattle.sat_log.specs.Clause.{Among, IsWithin, HasDistinctVariables, AreLiterals}
 use Rattle.sat_log.specs.Checking.{is_set, IsUpTo, AreUpTo}
-use Rattle.sat_log.specs.Accepted.{hinted, clauses, IsOfKind, AreLines, IsLog}
+use Rattle.sat_log.specs.Accepted.{hinted, clause_at, clauses, Refutes, IsOfKind, AreLines, IsLog}
 use Rattle.sat_log.specs.Learned.{IsFresh, IsFreshOfKind, AllFresh, learned, conflicts}
-use Rattle.sat_log.proofs.Decided.{literal_of, among_from_set, set_from_among, unset_from}
+use Rattle.sat_log.proofs.Decided.{among_from_set, set_from_among, unset_from}
 use Rattle.sat_log.proofs.Implied.{clauses-append}
+use Rattle.sat_log.proofs.LiteralLemmas.{literal_of, All-among, All-from_among}
 use Rattle.sat_log.specs.declared.line.LineKind.{LineKind}
 use Rattle.sat_log.specs.declared.line.LineKind.TheVariants.{Original, Conflict, Final}
 use Rattle.sat_log.specs.declared.line.LogLine.{LogLine}
-
--- What holds of each literal of a clause.
-
-all_from : (P : Literal → Type 0) (c : List Literal) → ((l : Literal) → Among c l → P l) → AllByRecursion P c
-all_from P [] each = tt
-all_from P (l ∷ c) each = (each l (inl refl), all_from P c (λ k m. each k (inr m)))
-
-among_all : (P : Literal → Type 0) (c : List Literal) (l : Literal) → AllByRecursion P c → Among c l → P l
-among_all P [] l h m = absurd m
-among_all P (x ∷ c) l h (inl e) = subst P e h.0
-among_all P (x ∷ c) l h (inr m) = among_all P c l h.1 m
 
 -- A variable's choice in a clause: absent, positive or negative.
 
@@ -69,8 +60,8 @@ one_sign (x ∷ c) v d (inl e) (inl e') =
     let both : literal_of v true ≡ literal_of v false = sym e ∙ e' in
     let signs : true ≡ false = ap (λ (l : Literal). l.negative) both in
     absurd cc
-one_sign (x ∷ c) v d (inl e) (inr m') = among_all (λ k. ¬ (k.var ≡ x.var)) c (literal_of v false) d.0 m' (sym (ap (λ (l : Literal). l.var) e))
-one_sign (x ∷ c) v d (inr m) (inl e') = among_all (λ k. ¬ (k.var ≡ x.var)) c (literal_of v true) d.0 m (sym (ap (λ (l : Literal). l.var) e'))
+one_sign (x ∷ c) v d (inl e) (inr m') = All-among (λ k. ¬ (k.var ≡ x.var)) c (literal_of v false) d.0 m' (sym (ap (λ (l : Literal). l.var) e))
+one_sign (x ∷ c) v d (inr m) (inl e') = All-among (λ k. ¬ (k.var ≡ x.var)) c (literal_of v true) d.0 m (sym (ap (λ (l : Literal). l.var) e'))
 one_sign (x ∷ c) v d (inr m) (inr m') = one_sign c v d.1 m m'
 
 same_choice_among : (c d : List Literal) (v : ℕ) (s : Bool) → HasDistinctVariables c → choice c v ≡ choice d v → Among c (literal_of v s) → Among d (literal_of v s)
@@ -113,8 +104,8 @@ IsChoice n c = HasDistinctVariables c × AllByRecursion (λ l. (1 ≤ l.var) × 
 
 same_code_within : (c d : List Literal) (n : ℕ) → IsChoice n c → code c n ≡ code d n → IsWithin c d
 same_code_within c d n h e =
-    all_from (Among d) c (λ l m. (
-    let range = among_all (λ k. (1 ≤ k.var) × (k.var ≤ n)) c l h.1 m in
+    All-from_among (Among d) c (λ l m. (
+    let range = All-among (λ k. (1 ≤ k.var) × (k.var ≤ n)) c l h.1 m in
     same_choice_among c d l.var l.negative h.0 (same_choices c d n l.var e range.0 range.1) m
     ))
 
@@ -192,8 +183,106 @@ lines_choices n before (line ∷ gained) h u =
     by_kind Conflict k r rest = ((k.distinct, r), rest)
     by_kind Final k r rest = rest
 
-pub few_fresh : (n : ℕ) (before gained : List LogLine) → IsLog (before ++ gained) → AreUpTo n gained → AllFresh before gained → length (conflicts gained) ≤ 3 ^ n
+-- A clause that stands before the gained lines is one choice more.
+
+few_after : (n : ℕ) (c : List Literal) (before gained : List LogLine) → IsChoice n c → IsKept c before → AllByRecursion (IsChoice n) (conflicts gained) → AllFresh before gained → length (conflicts gained) < 3 ^ n
+unfolding IsDistinct
+few_after n c before gained h kept choices fresh =
+    let codes : List ℕ = map (λ d. code d n) (conflicts gained) in
+    let distinct : IsDistinct eqb (code c n ∷ codes) = (apart_codes n c h before gained kept fresh, distinct_codes n before gained choices fresh) in
+    let few : length (code c n ∷ codes) ≤ 3 ^ n = length-le_from_distinct_below (code c n ∷ codes) (3 ^ n) distinct (codes_below n (c ∷ conflicts gained)) in
+    let same : length codes ≡ length (conflicts gained) = length-map (conflicts gained) (λ d. code d n) in
+    omega arith
+
+kept_first : (c : List Literal) (cs : List (List Literal)) (log : List LogLine) → clauses log ≡ c ∷ cs → IsKept c log
+unfolding IsKept
+kept_first c cs log first d h = let all = subst (λ ds. IsFresh ds d) first h in all.0
+
+-- the first clause of a log
+first_choice : (n : ℕ) (start log : List LogLine) (c : List Literal) (cs : List (List Literal)) → AreLines start log → AreUpTo n log → clauses log ≡ c ∷ cs → IsChoice n c
+first_choice n start [] c cs h u first = absurd cc
+first_choice n start (line ∷ log) c cs h u first =
+    by_kind line.kind h.0.1 (in_range n line.lits h.0.0 u.0) first (first_choice n (start ++ line ∷ []) log c cs h.1 u.1)
+  where
+    by_kind : (kind : LineKind) → IsOfKind kind start line → AllByRecursion (λ l. (1 ≤ l.var) × (l.var ≤ n)) line.lits
+        → option_to_list (hinted kind line.lits) ++ clauses log ≡ c ∷ cs → (clauses log ≡ c ∷ cs → IsChoice n c) → IsChoice n c
+    by_kind Original k r first rest = let same : line.lits ≡ c = cc in subst (IsChoice n) same (k.distinct, r)
+    by_kind Conflict k r first rest = let same : line.lits ≡ c = cc in subst (IsChoice n) same (k.distinct, r)
+    by_kind Final k r first rest = rest first
+
+-- Without a clause no line is accepted.
+
+none_hinted : (log : List LogLine) (k : ℕ) (c : List Literal) → clauses log ≡ [] → option_and_then (λ (line : LogLine). hinted line.kind line.lits) (slice_get log k) ≡ Some c → ⊥
+none_hinted [] k c none e = absurd cc
+none_hinted (line ∷ log) zero c none e = by_clause (hinted line.kind line.lits) none e
+  where
+    by_clause : (o : Option (List Literal)) → option_to_list o ++ clauses log ≡ [] → o ≡ Some c → ⊥
+    by_clause None none e = absurd cc
+    by_clause (Some d) none e = absurd cc
+none_hinted (line ∷ log) (suc k) c none e = none_hinted log k c (by_clause (hinted line.kind line.lits) none) e
+  where
+    by_clause : (o : Option (List Literal)) → option_to_list o ++ clauses log ≡ [] → clauses log ≡ []
+    by_clause None none = none
+    by_clause (Some d) none = absurd cc
+
+none_named : (log : List LogLine) (id : ℕ) (c : List Literal) → clauses log ≡ [] → clause_at log id ≡ Some c → ⊥
+none_named log id c none e = by_zero (eqb id 0) e
+  where
+    by_zero : (b : Bool) → option_and_then (λ (line : LogLine). hinted line.kind line.lits) (cond b None (slice_get log (id - 1))) ≡ Some c → ⊥
+    by_zero true e = absurd cc
+    by_zero false e = none_hinted log (id - 1) c none e
+
+none_refuted : (log : List LogLine) (set : List Literal) (hints : List ℕ) → clauses log ≡ [] → Refutes log set hints → ⊥
+none_refuted log set [] none r = r
+none_refuted log set (id ∷ []) none r = none_named log id r.0 none r.1
+none_refuted log set (id ∷ next ∷ ids) none r = none_named log id r.0 none r.2
+
+-- before the lines there is no clause, or one that is a choice and stays
+abbrev HasChoice : ℕ → List LogLine → Type 0
+HasChoice n before = (clauses before ≡ []) ⊎ ((c : List Literal) × IsChoice n c × IsKept c before)
+
+kept_original : (log : List LogLine) (line : LogLine) → line.kind ≡ Original → IsKept line.lits (log ++ line ∷ [])
+unfolding IsKept
+kept_original log line kind d h =
+    let last = subst (λ k. IsFresh (option_to_list (hinted k line.lits) ++ []) d) kind (fresh_before log line d h).1 in
+    last.0
+
+some_choice : (n : ℕ) → 0 < 3 ^ n
+some_choice zero = omega arith
+some_choice (suc n) = omega (arith, pow-suc 3 n, some_choice n)
+
+few_lines : (n : ℕ) (before gained : List LogLine) → HasChoice n before → AreLines before gained → AreUpTo n gained → AllFresh before gained → length (conflicts gained) < 3 ^ n
+few_lines n before [] known lines up_to fresh = some_choice n
+few_lines n before (line ∷ gained) (inr some) lines up_to fresh =
+    few_after n some.0 before (line ∷ gained) some.1 some.2 (lines_choices n before (line ∷ gained) lines up_to) fresh
+few_lines n before (line ∷ gained) (inl none) lines up_to fresh =
+    by_kind line.kind refl lines.0.1 (λ known. few_lines n (before ++ line ∷ []) gained known lines.1 up_to.1 fresh.1)
+  where
+    by_kind : (kind : LineKind) → line.kind ≡ kind → IsOfKind kind before line → (HasChoice n (before ++ line ∷ []) → length (conflicts gained) < 3 ^ n) → length (option_to_list (learned kind line.lits) ++ conflicts gained) < 3 ^ n
+    by_kind Original same k rest =
+        rest (inr (line.lits, (k.distinct, in_range n line.lits lines.0.0 up_to.0), kept_original before line same))
+    by_kind Conflict same k rest = absurd (none_refuted before (map negated line.lits) line.hints none k.refuted)
+    by_kind Final same k rest =
+        rest (inl (clauses-append before (line ∷ []) ∙ ap (λ (cs : List (List Literal)). cs ++ clauses (line ∷ [])) none ∙ ap (λ (kind : LineKind). option_to_list (hinted kind line.lits) ++ []) same))
+
+-- Fresh conflict lines are fewer than the choices: a clause from which the first of them follows has a choice too.
+pub few_fresh : (n : ℕ) (before gained : List LogLine) → IsLog (before ++ gained) → AreUpTo n (before ++ gained) → AllFresh before gained → length (conflicts gained) < 3 ^ n
 few_fresh n before gained log up_to fresh =
-    let choices = lines_choices n before gained (gained_lines [] before gained log.lines) up_to in
-    let few = length-le_from_distinct_below (map (λ d. code d n) (conflicts gained)) (3 ^ n) (distinct_codes n before gained choices fresh) (codes_below n (conflicts gained)) in
-    rw length-map at few
+    let old_lines : AreLines [] before = first_lines [] before gained log.lines in
+    few_lines n before gained (by_clauses (clauses before) refl old_lines) (gained_lines [] before gained log.lines) (back before up_to) fresh
+  where
+    first_lines : (start before gained : List LogLine) → AreLines start (before ++ gained) → AreLines start before
+    first_lines start [] gained h = tt
+    first_lines start (line ∷ before) gained h = (h.0, first_lines (start ++ line ∷ []) before gained h.1)
+
+    front : (before : List LogLine) → AreUpTo n (before ++ gained) → AreUpTo n before
+    front [] h = tt
+    front (line ∷ before) h = (h.0, front before h.1)
+
+    back : (before : List LogLine) → AreUpTo n (before ++ gained) → AreUpTo n gained
+    back [] h = h
+    back (line ∷ before) h = back before h.1
+
+    by_clauses : (cs : List (List Literal)) → clauses before ≡ cs → AreLines [] before → HasChoice n before
+    by_clauses [] same lines = inl same
+    by_clauses (c ∷ cs) same lines = inr (c, first_choice n [] before c cs lines (front before up_to) same, kept_first c cs before same)

@@ -9,6 +9,7 @@ use Rattle.std.proofs.lemmas.Bool.{false≢true}
 use Rattle.sat_log.specs.Literal.{Literal, negated}
 use Rattle.sat_log.specs.Clause.{Among, literal_value, clause_value, Satisfies, IsFalsified, IsUnit}
 use Rattle.sat_log.specs.Accepted.{hinted, given, clause_at, Refutes, Accepts, IsOfKind, AreLines, IsLog, originals, clauses}
+use Rattle.sat_log.proofs.LiteralLemmas.{All-among, negated_value, Satisfies-append}
 use Rattle.sat_log.specs.declared.line.LineKind.{LineKind}
 use Rattle.sat_log.specs.declared.line.LineKind.TheVariants.{Original, Conflict, Final}
 use Rattle.sat_log.specs.declared.line.LogLine.{LogLine}
@@ -16,20 +17,6 @@ use Rattle.sat_log.specs.declared.line.LogLine.{LogLine}
 -- every literal that is set is true
 abbrev AllTrue : (ℕ → Bool) → List Literal → Type 0
 AllTrue v set = AllByRecursion (λ l. literal_value v l ≡ true) set
-
-among_true : (v : ℕ → Bool) (set : List Literal) (l : Literal) → AllTrue v set → Among set l → literal_value v l ≡ true
-among_true v [] l h m = absurd m
-among_true v (x ∷ set) l h (inl e) = rw (← e) h.0
-among_true v (x ∷ set) l h (inr m) = among_true v set l h.1 m
-
-sign_value : (s x : Bool) → cond (not s) (not x) x ≡ not (cond s (not x) x)
-sign_value true true = refl
-sign_value true false = refl
-sign_value false true = refl
-sign_value false false = refl
-
-negated_value : (v : ℕ → Bool) (l : Literal) → literal_value v (negated l) ≡ not (literal_value v l)
-negated_value v l = sign_value l.negative (v l.var)
 
 from_not : (b : Bool) → not b ≡ true → b ≡ false
 from_not true h = sym h
@@ -42,7 +29,7 @@ to_not false h = refl
 falsified_value : (v : ℕ → Bool) (set c : List Literal) → AllTrue v set → IsFalsified set c → clause_value v c ≡ false
 falsified_value v set [] h f = refl
 falsified_value v set (l ∷ c) h f =
-    let e : literal_value v l ≡ false = from_not _ (sym (negated_value v l) ∙ among_true v set (negated l) h f.0) in
+    let e : literal_value v l ≡ false = from_not _ (sym (negated_value v l) ∙ All-among (λ k. literal_value v k ≡ true) set (negated l) h f.0) in
     rw e (falsified_value v set c h f.1)
 
 or_false : (a b : Bool) → a ≡ false → a || b ≡ true → b ≡ true
@@ -97,10 +84,6 @@ both_satisfied v (Some d) cs h hs = (h.0, hs)
 first_of_both : (v : ℕ → Bool) (o : Option (List Literal)) (cs : List (List Literal)) → Satisfies v (option_to_list o ++ cs) → Satisfies v (option_to_list o)
 first_of_both v None cs h = tt
 first_of_both v (Some d) cs h = (h.0, tt)
-
-Satisfies-append : (v : ℕ → Bool) (cs ds : List (List Literal)) → Satisfies v cs → Satisfies v ds → Satisfies v (cs ++ ds)
-Satisfies-append v [] ds h hs = hs
-Satisfies-append v (c ∷ cs) ds h hs = (h.0, Satisfies-append v cs ds h.1 hs)
 
 pub clauses-append : (log lines : List LogLine) → clauses (log ++ lines) ≡ clauses log ++ clauses lines
 clauses-append [] lines = refl

@@ -1,14 +1,8 @@
+pub mod ListLemmas
+pub mod LiteralLemmas
 pub mod Implied
 pub mod NeededFresh
 pub mod FreshBound
 pub mod MarkLemmas
 pub mod Decided
 pub mod LogLemmas
-pub mod TextLemmas
-pub mod NumberLemmas
-pub mod PieceLemmas
-pub mod ReadLemmas
-pub mod PageLaws
-pub mod SplitLaws
-pub mod LineFaults
-pub mod FaultLaws

@@ -1,12 +1,13 @@
 -- A log, and its marks, through one more line.
-use Rattle.std.proofs.Common.{◌≡◌, ◌≢◌, ℕ, ◌<◌, ◌≤◌, length, ap, List, [], ◌∷◌, ◌++◌, refl, sym, subst, append_assoc, arith}
-use Rattle.std.proofs.lemmas.List.{append-nil}
+use Rattle.std.proofs.Common.{◌≡◌, ◌≢◌, ℕ, ◌<◌, ◌≤◌, length, take, drop, ap, List, [], ◌∷◌, ◌++◌, refl, sym, subst, append_assoc, arith}
+use Rattle.std.proofs.lemmas.List.{append-nil, take-append-drop}
 use Rattle.sat_log.specs.Literal.{Literal}
 use Rattle.sat_log.specs.Clause.{AreLiterals, HasDistinctVariables}
-use Rattle.sat_log.specs.Accepted.{Accepts, IsOfKind, Follows, AreLines, IsLog}
+use Rattle.sat_log.specs.Accepted.{Accepts, IsOriginal, IsOfKind, Follows, AreLines, IsLog}
 use Rattle.sat_log.specs.Marked.{Marked, HasRoomFor, HasRoomForAll, KeepsRoom}
 use Rattle.sat_log.specs.Checking.{IsUpTo, AreUpTo}
 use Rattle.sat_log.specs.Kept.{KeepsLog}
+use Rattle.sat_log.proofs.ListLemmas.{All-front}
 use Rattle.sat_log.proofs.MarkLemmas.{clause_keeps}
 use Rattle.sat_log.specs.declared.line.LineKind.{LineKind}
 use Rattle.sat_log.specs.declared.line.LineKind.TheVariants.{Original, Conflict, Final}
@@ -21,6 +22,22 @@ lines_push before (x ∷ lines) line h f =
 
 pub log_push : (log : List LogLine) (line : LogLine) → IsLog log → Follows log line → IsLog (log ++ line ∷ [])
 log_push log line h f = record { lines = lines_push [] log line h.lines f }
+
+-- Lines are taken away.
+
+pub lines_front : (before lines more : List LogLine) → AreLines before (lines ++ more) → AreLines before lines
+lines_front before [] more h = tt
+lines_front before (line ∷ lines) more h = (h.0, lines_front (before ++ line ∷ []) lines more h.1)
+
+pub keeps_front : (log : List LogLine) (marks : Marked) (last last' n : ℕ) → KeepsLog log marks last → AreUpTo last' (take n log) → KeepsLog (take n log) marks last'
+keeps_front log marks last last' n k up_to =
+    let whole = sym (take-append-drop n log) in
+    record {
+      log = record { lines = lines_front [] (take n log) (drop n log) (subst (AreLines []) whole k.log.lines) };
+      clear = k.clear;
+      room = All-front (λ line. HasRoomFor marks line.lits) (take n log) (drop n log) (subst (HasRoomForAll marks) whole k.room);
+      up_to = up_to;
+    }
 
 pub up_to_more : (m n : ℕ) (c : List Literal) → m ≤ n → IsUpTo m c → IsUpTo n c
 up_to_more m n [] h u = tt
@@ -69,10 +86,10 @@ keeps_push log line old new last most last' k clear keeps follows room u h more 
       up_to = all_up_to_push last' log line (all_up_to_more last last' log more k.up_to) (up_to_more most last' line.lits h u);
     }
 
--- an original with a literal, no variable twice and no hint may come next
-pub original_follows : (log : List LogLine) (line : LogLine) → AreLiterals line.lits → line.kind ≡ Original → 0 < length line.lits → length line.hints ≤ 0 → HasDistinctVariables line.lits → Follows log line
-original_follows log line literals kind some none distinct =
-    (literals, subst (λ k. IsOfKind k log line) (sym kind) (record { nonempty = (λ e. has_some (ap length e)); distinct = distinct; unhinted = no_hints line.hints none }))
+-- a line with a literal, no variable twice and no hint is an original
+pub is_original : (line : LogLine) → 0 < length line.lits → length line.hints ≤ 0 → HasDistinctVariables line.lits → IsOriginal line
+is_original line some none distinct =
+    record { nonempty = (λ e. has_some (ap length e)); distinct = distinct; unhinted = no_hints line.hints none }
   where
     has_some : length line.lits ≡ 0 → ⊥
     has_some e = omega arith
@@ -80,3 +97,7 @@ original_follows log line literals kind some none distinct =
     no_hints : (hints : List ℕ) → length hints ≤ 0 → hints ≡ []
     no_hints [] h = refl
     no_hints (x ∷ hints) h = absurd (omega arith)
+
+-- and may come next
+pub original_follows : (log : List LogLine) (line : LogLine) → AreLiterals line.lits → line.kind ≡ Original → IsOriginal line → Follows log line
+original_follows log line literals kind proper = (literals, subst (λ k. IsOfKind k log line) (sym kind) proper)

@@ -4,27 +4,22 @@ use Rattle.std.specs.Prelude.{count_by, Some, None}
 use Rattle.std.specs.List.{AllByRecursion, list_any, position, position_or_len}
 use Rattle.std.proofs.lemmas.List.Sums.{sum_by-set, count_by-le-length, prefix_len-le-length, passes_at_first}
 use Rattle.std.proofs.lemmas.List.Folds.{list_any-append, position_or_len_push}
-use Rattle.std.proofs.lemmas.Bool.{false≢true, eqb-true, eq-eqb, ne_eqb, cases_eq, cases_lt, ltb-false}
+use Rattle.std.proofs.lemmas.Bool.{false≢true, eqb-true, eq-eqb, ne_eqb, cases_eq, cases_lt, ltb-false, lt-ltb, le-ltb}
 use Rattle.std.proofs.lemmas.List.{length_push, take_more}
 use Rattle.indexmap.specs.IndexSet.{insert_key}
 use Rattle.sat_log.specs.Literal.{Literal, packed}
 use Rattle.sat_log.specs.Marked.{Marked, is_numbered, place, places, HasPlace, HasRoomFor, KeepsRoom, placed, is_placed, Agrees, IsClear}
 use Rattle.sat_log.specs.Checking.{IsUpTo}
-use Rattle.sat_log.proofs.Decided.{literal_by_parts, packed_injective}
+use Rattle.sat_log.proofs.ListLemmas.{All-append, All-front, All-back}
+use Rattle.sat_log.proofs.LiteralLemmas.{literal_by_parts, packed_injective}
 
 -- Places of variables.
 
-lt_ltb : (a b : ℕ) → a < b → ltb a b ≡ true
-lt_ltb a b h = search (rules, tests)
-
-le_ltb : (a b : ℕ) → b ≤ a → ltb a b ≡ false
-le_ltb a b h = search (rules, tests)
-
 pub near_place : (room : ℕ) (far : List ℕ) (v : ℕ) → v ≤ room → place room far v ≡ v
-near_place room far v h = ap (λ t. cond t (room + 1 + position_or_len (eqb v) far) v) (le_ltb room v h)
+near_place room far v h = ap (λ t. cond t (room + 1 + position_or_len (eqb v) far) v) (le-ltb room v h)
 
 pub far_place : (room : ℕ) (far : List ℕ) (v : ℕ) → room < v → place room far v ≡ room + 1 + position_or_len (eqb v) far
-far_place room far v h = ap (λ t. cond t (room + 1 + position_or_len (eqb v) far) v) (lt_ltb room v h)
+far_place room far v h = ap (λ t. cond t (room + 1 + position_or_len (eqb v) far) v) (lt-ltb room v h)
 
 pub near_has_place : (room : ℕ) (far : List ℕ) (v : ℕ) → v ≤ room → HasPlace room far v
 near_has_place room far v h = omega (arith, near_place room far v h)
@@ -174,13 +169,9 @@ up_to_has_room marks [] h = tt
 up_to_has_room marks (l ∷ c) h =
     (near_has_place marks.room marks.far l.var h.0, up_to_has_room marks c h.1)
 
-pub All-push : (P : Literal → Type 0) (xs : List Literal) (x : Literal) → AllByRecursion P xs → P x → AllByRecursion P (xs ++ x ∷ [])
-All-push P [] x h p = (p, tt)
-All-push P (y ∷ xs) x h p = (h.0, All-push P xs x h.1 p)
-
 one_more : (P : Literal → Type 0) (xs : List Literal) (i : ℕ) (x : Literal) → i < length xs → x ≡ get_or xs i x → AllByRecursion P (take i xs) → P x → AllByRecursion P (take (i + 1) xs)
 one_more P xs i x h e all p =
-    subst (AllByRecursion P) (sym (take_more xs i x h ∙ ap (λ y. take i xs ++ y ∷ []) (sym e))) (All-push P (take i xs) x all p)
+    subst (AllByRecursion P) (sym (take_more xs i x h ∙ ap (λ y. take i xs ++ y ∷ []) (sym e))) (All-append P (take i xs) (x ∷ []) all (p, tt))
 
 pub one_more_has_room : (marks : Marked) (c : List Literal) (i : ℕ) (l : Literal) → i < length c → l ≡ get_or c i l → HasRoomFor marks (take i c) → HasPlace marks.room marks.far l.var → HasRoomFor marks (take (i + 1) c)
 one_more_has_room marks c i l h e room here =
@@ -208,22 +199,21 @@ stretched room far truths trail capacity none size clear spare =
 
 -- One more literal is set.
 
--- where a place is not marked, the trail has room for one more
-pub spare_left : (room : ℕ) (far : List ℕ) (truths : List Bool) (trail : List Literal) (capacity n : ℕ) → Agrees room far truths trail capacity → n < length truths → get_or truths n false ≡ false → length trail < capacity
-spare_left room far truths trail capacity n a h e =
-    let more : count_by (λ b. b) (set truths n true) + cond {A = ℕ} (get_or truths n false) 1 0 ≡ count_by (λ b. b) truths + 1 = sum_by-set (λ (b : Bool). cond b 1 0) truths n true false h in
-    let bound : count_by (λ b. b) (set truths n true) ≤ length (set truths n true) = count_by-le-length (λ b. b) (set truths n true) in
-    let none : cond {A = ℕ} (get_or truths n false) 1 0 ≡ 0 = ap (λ b. cond {A = ℕ} b 1 0) e in
-    let same : length (set truths n true) ≡ length truths = length-set truths n true in
-    let counted : count_by (λ b. b) truths ≡ length trail = a.count in
-    let spare : length truths ≤ capacity = a.spare in
-    omega arith
-
 -- one more is marked where one place more is true
-count_by-set_true : (truths : List Bool) (n : ℕ) → n < length truths → get_or truths n false ≡ false → count_by (λ b. b) (set truths n true) ≡ count_by (λ b. b) truths + 1
+pub count_by-set_true : (truths : List Bool) (n : ℕ) → n < length truths → get_or truths n false ≡ false → count_by (λ b. b) (set truths n true) ≡ count_by (λ b. b) truths + 1
 count_by-set_true truths n h e =
     let more : count_by (λ b. b) (set truths n true) + cond {A = ℕ} (get_or truths n false) 1 0 ≡ count_by (λ b. b) truths + 1 = sum_by-set (λ (b : Bool). cond b 1 0) truths n true false h in
     let none : cond {A = ℕ} (get_or truths n false) 1 0 ≡ 0 = ap (λ b. cond {A = ℕ} b 1 0) e in
+    omega arith
+
+-- where a place is not marked, the trail has room for one more
+pub spare_left : (room : ℕ) (far : List ℕ) (truths : List Bool) (trail : List Literal) (capacity n : ℕ) → Agrees room far truths trail capacity → n < length truths → get_or truths n false ≡ false → length trail < capacity
+spare_left room far truths trail capacity n a h e =
+    let more = count_by-set_true truths n h e in
+    let bound : count_by (λ b. b) (set truths n true) ≤ length (set truths n true) = count_by-le-length (λ b. b) (set truths n true) in
+    let same : length (set truths n true) ≡ length truths = length-set truths n true in
+    let counted : count_by (λ b. b) truths ≡ length trail = a.count in
+    let spare : length truths ≤ capacity = a.spare in
     omega arith
 
 is_placed-push : (room : ℕ) (far : List ℕ) (trail : List Literal) (l : Literal) (n : ℕ) → is_placed room far (trail ++ l ∷ []) n ≡ is_placed room far trail n || (eqb (packed (placed room far l)) n || false)
@@ -255,7 +245,7 @@ agrees_set room far truths trail capacity n l code a h e =
     let unmarked : get_or truths n false ≡ false = a.values n inside ∙ ap (is_placed room far trail) (sym code) ∙ placed_set room far trail l a.within h ∙ e in
     record {
       size = subst (λ k. 2 * places room far ≤ k) (sym kept) size;
-      within = All-push (λ l. HasPlace room far l.var) trail l a.within h;
+      within = All-append (λ l. HasPlace room far l.var) trail (l ∷ []) a.within (h, tt);
       values = (λ m below. values_set room far truths trail l n code inside a.values m (subst (λ k. m < k) kept below));
       count = count_by-set_true truths n inside unmarked ∙ ap (λ k. k + 1) a.count ∙ sym (length_push trail l);
       spare = subst (λ k. k ≤ capacity) (sym kept) a.spare;
@@ -274,24 +264,16 @@ pub agrees_covers : (room : ℕ) (far : List ℕ) (truths : List Bool) (trail : 
 agrees_covers room far truths trail capacity a =
     record { size = a.size; within = a.within; covered = (λ n h e. sym (a.values n h) ∙ e); spare = a.spare }
 
-All-front : (P : Literal → Type 0) (xs : List Literal) (x : Literal) → AllByRecursion P (xs ++ x ∷ []) → AllByRecursion P xs
-All-front P [] x h = tt
-All-front P (y ∷ xs) x h = (h.0, All-front P xs x h.1)
-
-pub All-last : (P : Literal → Type 0) (xs : List Literal) (x : Literal) → AllByRecursion P (xs ++ x ∷ []) → P x
-All-last P [] x h = h.0
-All-last P (y ∷ xs) x h = All-last P xs x h.1
-
 -- the last literal of the trail is taken away
 pub covers_pop : (room : ℕ) (far : List ℕ) (truths : List Bool) (trail : List Literal) (capacity n : ℕ) (l : Literal) → packed (placed room far l) ≡ n → Covers room far truths (trail ++ l ∷ []) capacity → Covers room far (set truths n false) trail capacity
 covers_pop room far truths trail capacity n l code a =
     let kept : length (set truths n false) ≡ length truths = length-set truths n false in
-    let bound : packed (placed room far l) < 2 * places room far = number_within room far l (All-last (λ l. HasPlace room far l.var) trail l a.within) in
+    let bound : packed (placed room far l) < 2 * places room far = number_within room far l (All-back (λ l. HasPlace room far l.var) trail (l ∷ []) a.within).0 in
     let size : 2 * places room far ≤ length truths = a.size in
     let inside : n < length truths = omega (arith, code) in
     record {
       size = subst (λ k. 2 * places room far ≤ k) (sym kept) size;
-      within = All-front (λ l. HasPlace room far l.var) trail l a.within;
+      within = All-front (λ l. HasPlace room far l.var) trail (l ∷ []) a.within;
       covered = (λ m below e. covered_pop m (subst (λ k. m < k) kept below) inside e);
       spare = subst (λ k. k ≤ capacity) (sym kept) a.spare;
     }

@@ -1,6 +1,8 @@
 -- What a log keeps of its lines and its marks.
-use Rattle.std.specs.Prelude.{◌≡◌, ℕ, List, []}
+use Rattle.std.specs.Prelude.{◌≡◌, ◌≢◌, ℕ, List, []}
+use Rattle.std.specs.List.{AllByRecursion}
 use Rattle.sat_log.specs.Literal.{Literal}
+use Rattle.sat_log.specs.Clause.{HasDistinctVariables}
 use Rattle.sat_log.specs.Marked.{Marked, HasRoomForAll}
 use Rattle.sat_log.specs.Accepted.{IsLog}
 use Rattle.sat_log.specs.Checking.{AreUpTo}
@@ -18,3 +20,7 @@ pub record KeepsLog (lines : List LogLine) (marks : Marked) (last : ℕ) : Type 
 -- the line of an original clause
 abbrev pub original : List Literal → LogLine
 original c = record { kind = Original; lits = c; hints = [] }
+
+-- clauses that can be originals: each has a literal, and no variable twice
+abbrev pub AreProper : List (List Literal) → Type 0
+AreProper cs = AllByRecursion (λ c. (c ≢ []) × HasDistinctVariables c) cs

@@ -5,9 +5,3 @@ pub mod Learned
 pub mod Marked
 pub mod Checking
 pub mod Kept
-pub mod Page
-pub mod LogText
-pub mod FaultText
-pub mod Answers
-pub mod Reading
-pub mod TextFault

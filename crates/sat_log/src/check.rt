@@ -8,7 +8,6 @@ ghost use Rattle.sat_log.specs.Clause.{AreLiterals};
 ghost use Rattle.sat_log.specs.Accepted.{Accepts, clause_at, line_at};
 ghost use Rattle.sat_log.specs.Checking.{IsUpTo, can_assume, look, refutes, accepts, LooksWithin};
 ghost use Rattle.sat_log.specs.Marked.{HasRoomFor, HasRoomForAll};
-ghost use Rattle.sat_log.specs.Reading.{all_named};
 
 use crate::marks::{Look, Marks};
 use crate::{LineKind, LogLine, SLit};
@@ -24,7 +23,7 @@ pub(crate) fn line_at(lines: &[LogLine], id: u64) -> Option<&LogLine>
 }
 
 /// The clause that a hint names: an original or a conflict line.
-fn clause_at(lines: &[LogLine], id: u64) -> Option<&[SLit]>
+pub(crate) fn clause_at(lines: &[LogLine], id: u64) -> Option<&[SLit]>
     ensures { option_copied result ≡ clause_at lines.now id }
 {
     let line = line_at(lines, id)?;
@@ -142,16 +141,4 @@ pub(crate) fn is_distinct(literals: &[SLit], marks: &mut Marks) -> bool
     let distinct = assume_false(marks, literals);
     marks.clear();
     distinct
-}
-
-/// Whether each hint names a clause.
-pub(crate) fn all_named(lines: &[LogLine], hints: &[u64]) -> bool
-    ensures { result ≡ all_named lines.now hints.now }
-{
-    for id in hints {
-        if clause_at(lines, *id).is_none() {
-            return false;
-        }
-    }
-    true
 }

@@ -1,6 +1,6 @@
 //! Laws of the definitions, each the contract of a function that does nothing.
 
-ghost use Rattle.std.specs.Prelude.{◌≤◌, ◌^◌, ◌++◌, ℕ, Bool, List, length, IsTrue};
+ghost use Rattle.std.specs.Prelude.{◌<◌, ◌^◌, ◌++◌, ℕ, Bool, List, length, IsTrue};
 ghost use Rattle.sat_log.specs.Literal.{Literal};
 ghost use Rattle.sat_log.specs.Clause.{Satisfies, clause_value};
 ghost use Rattle.sat_log.specs.Accepted.{IsLog, Accepts, originals, clauses};
@@ -27,10 +27,11 @@ pub fn needed_line_is_fresh()
         IsNeeded before c → IsFresh before c }
 {}
 
-/// Fresh conflict lines over `n` variables are at most `3 ^ n`: each variable is positive in a line, negative, or absent, and of
-/// two lines with the same choices each contains the other.
+/// Fresh conflict lines over `n` variables are fewer than `3 ^ n`: each variable is positive in a line, negative, or absent, of
+/// two lines with the same choices each contains the other, and a clause from which the first line follows has choices of its
+/// own.
 pub fn fresh_lines_are_few()
     ensures { (n : ℕ) (before gained : List LogLine) →
-        IsLog (before ++ gained) → AreUpTo n gained → AllFresh before gained →
-        length (conflicts gained) ≤ 3 ^ n }
+        IsLog (before ++ gained) → AreUpTo n (before ++ gained) → AllFresh before gained →
+        length (conflicts gained) < 3 ^ n }
 {}

@@ -1,24 +1,14 @@
-ghost use Rattle.std.specs.Prelude.{List, ◌⊎◌, ◌≡◌, ◌≢◌, ◌++◌, ◌∷◌, ◌↔◌, ◌≤◌, ◌<◌, ◌^◌, [], true, false, length, min, IsTrue, IfOk, IfErr, OnOk, OnErr};
+ghost use Rattle.std.specs.Prelude.{◌≡◌, ◌≢◌, ◌++◌, ◌∷◌, ◌↔◌, ◌<◌, ◌^◌, [], Err, length, map, take, IsTrue, IfOk, OnOk, OnErr};
 ghost use Rattle.std.specs.Option.{option_copied};
-ghost use Rattle.outside.specs.Told.{Writes};
 ghost use Rattle.sat_log.specs.Clause.{HasDistinctVariables};
-ghost use Rattle.sat_log.specs.Accepted.{Accepts, IsLog, line_at, originals};
-ghost use Rattle.sat_log.specs.Checking.{IsUpTo, AreUpTo, accepts};
-ghost use Rattle.sat_log.specs.Kept.{original};
-ghost use Rattle.sat_log.specs.LogText.{text_of, IsTextOf};
-ghost use Rattle.sat_log.specs.Reading.{all_named, may_follow};
-ghost use Rattle.sat_log.specs.Answers.{IsAnswer, IsNoMemory};
-ghost use Rattle.sat_log.specs.TextFault.{HasFault};
-ghost use Rattle.sat_log.specs.declared.fault.LogFault.{LogFault};
+ghost use Rattle.sat_log.specs.Accepted.{Accepts, IsOriginal, IsOfKind, IsLog, line_at, clause_at, originals};
+ghost use Rattle.sat_log.specs.Checking.{IsUpTo, AreUpTo};
+ghost use Rattle.sat_log.specs.Kept.{original, AreProper};
 ghost use Rattle.sat_log.specs.declared.line.LineKind.TheVariants.{Original};
-ghost use Rattle.sat_log.specs.declared.line.LogLine.{LogLine};
 
-use crate::check::{accepts_line, all_named, is_distinct, last_variable, line_at};
+use crate::check::{accepts_line, clause_at, is_distinct, last_variable, line_at};
 use crate::line::count_originals;
-use crate::read::read;
-use crate::write::{put_log, text_len};
-use crate::{Ids, LineKind, LogFault, LogLine, Marks, SLits};
-use outside::{Failed, Sink};
+use crate::{Ids, LineKind, LogLine, Marks, SLit, SLits};
 use std::alloc::{AllocError, AllocFailed, Global};
 use std::marker::Model;
 
@@ -125,6 +115,35 @@ impl Log {
         Ok(self.lines.len() as u64)
     }
 
+    /// Adds original clauses in their order: all of them, or none.
+    ///
+    /// # Errors
+    ///
+    /// `AllocError` where memory is refused; the log stays as it was.
+    pub fn add_originals(&mut self, clauses: &[SLits]) -> Result<(), AllocError>
+        requires { AreProper clauses.now }
+        ensures ok { OnOk result (self.new ≡ self.old ++ map original clauses.now) }
+        ensures err { OnErr result (self.new ≡ self.old) }
+    {
+        let (count, last) = (self.lines.len(), self.variables());
+        for clause in clauses {
+            if let Err(error) = self.add_original(clause) {
+                self.take_back(count, last);
+                return Err(error);
+            }
+        }
+        Ok(())
+    }
+
+    /// Takes all lines away but the first ones, in which no variable is past the last one.
+    fn take_back(&mut self, count: usize, last: u64)
+        requires { AreUpTo last (take count self.old) }
+        ensures { self.new ≡ take count self.old }
+    {
+        self.lines.truncate(count);
+        self.last = last;
+    }
+
     /// Appends a conflict line or a final line if the log accepts it, and answers its id.
     ///
     /// # Errors
@@ -150,12 +169,14 @@ impl Log {
         Ok(self.lines.len() as u64)
     }
 
-    /// Takes an original line if it is one: it has a literal, no variable twice, and no hint.
-    fn take_original(&mut self, line: LogLine) -> Result<(), AppendFault>
+    /// Appends an original line if it is one: it has a literal, no variable twice, and no hint.
+    fn append_original(&mut self, line: LogLine) -> Result<u64, AppendFault>
         requires { line.kind ≡ Original }
-        ensures taken { OnOk result (may_follow Original self.old line ≡ true) }
-        ensures refused { result ≡ Err AppendFault.NotAccepted → may_follow Original self.old line ≡ false }
+        ensures original { OnOk result (IsOriginal line) }
+        ensures refused { result ≡ Err AppendFault.NotAccepted → ¬ IsOriginal line }
         ensures ok { OnOk result (self.new ≡ self.old ++ line ∷ []) }
+        ensures id { IfOk result (λ id. id ≡ length self.new) }
+        ensures err { OnErr result (self.new ≡ self.old) }
     {
         if line.lits.len() == 0 || line.hints.len() > 0 {
             return Err(AppendFault::NotAccepted);
@@ -168,40 +189,28 @@ impl Log {
         let last = last_variable(line.lits.as_slice()).max(self.last);
         self.lines.push(line)?;
         self.last = last;
-        Ok(())
+        Ok(self.lines.len() as u64)
     }
 
-    /// Takes a conflict line or a final line if it is accepted.
-    fn take_accepted(&mut self, line: LogLine) -> Result<(), AppendFault>
-        requires { line.kind ≢ Original }
-        ensures taken { OnOk result (accepts self.old line ≡ true) }
-        ensures refused { result ≡ Err AppendFault.NotAccepted → accepts self.old line ≡ false }
+    /// Appends a line of any kind if it may come next, and answers its id. An original may where it has a
+    /// literal, no variable twice and no hint, and another line where the log accepts it.
+    ///
+    /// # Errors
+    ///
+    /// `NotAccepted` exactly where the line may not come next, and `NoMemory` where memory is refused; the
+    /// log stays as it was.
+    pub fn extend(&mut self, line: LogLine) -> Result<u64, AppendFault>
+        ensures accepted { OnOk result (IsOfKind line.kind self.old line) }
+        ensures refused { result ≡ Err AppendFault.NotAccepted → ¬ IsOfKind line.kind self.old line }
         ensures ok { OnOk result (self.new ≡ self.old ++ line ∷ []) }
-    {
-        match self.append(line) {
-            Ok(_) => Ok(()),
-            Err(fault) => Err(fault),
-        }
-    }
-
-    /// Takes a line of any kind if it may come next.
-    pub(crate) fn extend(&mut self, line: LogLine) -> Result<(), AppendFault>
-        ensures taken { OnOk result (may_follow line.kind self.old line ≡ true) }
-        ensures refused { result ≡ Err AppendFault.NotAccepted → may_follow line.kind self.old line ≡ false }
-        ensures ok { OnOk result (self.new ≡ self.old ++ line ∷ []) }
+        ensures id { IfOk result (λ id. id ≡ length self.new) }
+        ensures err { OnErr result (self.new ≡ self.old) }
     {
         match line.kind {
-            LineKind::Original => self.take_original(line),
-            LineKind::Conflict => self.take_accepted(line),
-            LineKind::Final => self.take_accepted(line),
+            LineKind::Original => self.append_original(line),
+            LineKind::Conflict => self.append(line),
+            LineKind::Final => self.append(line),
         }
-    }
-
-    /// Whether each hint names an original or a conflict line.
-    pub(crate) fn names_all(&self, hints: &[u64]) -> bool
-        ensures { result ≡ all_named self.now hints.now }
-    {
-        all_named(self.lines.as_slice(), hints)
     }
 
     /// The line of this id, if there is one.
@@ -209,6 +218,20 @@ impl Log {
         ensures { option_copied result ≡ line_at self.now id }
     {
         line_at(self.lines.as_slice(), id)
+    }
+
+    /// The clause that a hint to this id means: that of an original or of a conflict line.
+    pub fn clause(&self, id: u64) -> Option<&[SLit]>
+        ensures { option_copied result ≡ clause_at self.now id }
+    {
+        clause_at(self.lines.as_slice(), id)
+    }
+
+    /// The lines, in the order of their ids.
+    pub fn lines(&self) -> &[LogLine]
+        ensures { result.now ≡ self.now }
+    {
+        self.lines.as_slice()
     }
 
     /// How many lines there are.
@@ -227,48 +250,11 @@ impl Log {
         count_originals(self.lines.as_slice())
     }
 
-    /// How long the text of the log is, or 18446744073709551615 if it is longer.
-    pub fn text_len(&self) -> u64
-        ensures { result ≡ min (length (text_of self.now)) u64.MAX }
-    {
-        text_len(self.lines.as_slice())
-    }
-
-    /// Writes the text of the log.
-    ///
-    /// # Errors
-    ///
-    /// `Failed` after a fault of the sink; a front of the text was written then.
-    pub fn write_text<S: Sink>(&self, out: &mut S) -> Result<(), Failed>
-        ensures { Writes (text_of self.now) (S.told out.old) result (S.told out.new) }
-    {
-        put_log(out, self.lines.as_slice())
-    }
-
     /// A variable past which none stands in the log, as marks need it that check a line.
     pub fn variables(&self) -> u64
         ensures { AreUpTo result self.now }
     {
         self.last
-    }
-}
-
-/// Reads a log from its text, and checks each of its lines.
-///
-/// # Errors
-///
-/// The first line with a fault decides, and in it the fault of the smallest number; `NoMemory` where
-/// memory is refused.
-pub fn read_text(alloc: Global, bytes: &[u8]) -> Result<Log, LogFault>
-    ensures read { IfOk result (λ log. IsLog log × IsTextOf log bytes.now) }
-    ensures log { (log : List LogLine) → IsLog log → IsTextOf log bytes.now → IsAnswer result (Ok log) }
-    ensures refused { IfErr result (λ fault. IsNoMemory fault ⊎ HasFault bytes.now fault) }
-    ensures fault { (fault : LogFault) → HasFault bytes.now fault → IsAnswer result (Err fault) }
-    ensures written { (log : List LogLine) → IsLog log → bytes.now ≡ text_of log → IsAnswer result (Ok log) }
-{
-    match read(alloc, bytes) {
-        Ok(log) => Ok(log),
-        Err(fault) => Err(fault),
     }
 }
 

@@ -2,8 +2,8 @@
 use Rattle.std.specs.Prelude.{◌≡◌, ◌⊎◌, ◌-◌, ℕ, List, length, Ok, Err, ⊤}
 use Rattle.outside.specs.declared.files.FileFault.{FileFault}
 use Rattle.sat_log.specs.Accepted.{IsLog, originals}
-use Rattle.sat_log.specs.LogText.{IsTextOf}
-use Rattle.sat_log.specs.TextFault.{HasFault}
+use Rattle.sat_log_text.specs.LogText.{IsTextOf}
+use Rattle.sat_log_text.specs.TextFault.{HasFault}
 use Rattle.sat_log.specs.declared.line.LogLine.{LogLine}
 use Rattle.shell.specs.declared.event.Refusal.TheVariants as refusal
 use Rattle.shell.specs.declared.event.Event.{Event}

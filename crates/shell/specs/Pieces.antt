@@ -1,8 +1,8 @@
 -- The numbers in the text of an event.
 use Rattle.std.specs.Prelude.{ℕ, Option, Some, None}
 use Rattle.smv_tree.specs.declared.place.Place.{Place}
-use Rattle.sat_log.specs.declared.fault.LogFault.{LogFault}
-use Rattle.sat_log.specs.declared.fault.LogFault.TheVariants as log_fault
+use Rattle.sat_log_text.specs.declared.fault.LogFault.{LogFault}
+use Rattle.sat_log_text.specs.declared.fault.LogFault.TheVariants as log_fault
 use Rattle.shell.specs.declared.event.Refusal.TheVariants as refusal
 use Rattle.shell.specs.declared.event.Event.{Event}
 use Rattle.shell.specs.declared.event.Event.TheVariants as event

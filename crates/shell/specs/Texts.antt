@@ -3,8 +3,8 @@ use Rattle.std.specs.Prelude.{ℕ, Bool, true, false, List, [], ◌∷◌, codes
 use Rattle.smv_tree.specs.declared.place.Place.{Place}
 use Rattle.smv_parse.specs.declared.fault.ParseFault.{ParseFault}
 use Rattle.smv_parse.specs.declared.fault.ParseFault.TheVariants as parse_fault
-use Rattle.sat_log.specs.declared.fault.LogFault.{LogFault}
-use Rattle.sat_log.specs.declared.fault.LogFault.TheVariants as log_fault
+use Rattle.sat_log_text.specs.declared.fault.LogFault.{LogFault}
+use Rattle.sat_log_text.specs.declared.fault.LogFault.TheVariants as log_fault
 use Rattle.shell.specs.declared.event.Cause.{Cause}
 use Rattle.shell.specs.declared.event.Cause.TheVariants as cause
 use Rattle.shell.specs.declared.event.Refusal.{Refusal}

@@ -1,11 +1,11 @@
--- How circuits compose: a valuation of the gates in the end is one at each moment before.
+-- How circuits compose: a valuation of the gates in the end is one at each moment before, and conjunctions are all that is added.
 use Rattle.std.proofs.Common.{◌≡◌, ℕ, zero, suc, replicate, take, drop, ◌+◌, ◌<◌, ◌≤◌, max, Bool, true, false, ◌&&◌, not, List, [], ◌∷◌, ◌++◌, length, refl, arith}
-use Rattle.gates.proofs.Growth.{Grows-refl, Grows-trans, node-lt-span}
+use Rattle.gates.proofs.Growth.{Grows-refl, Grows-trans, AddsConjunctions-refl, AddsConjunctions-trans, node-lt-span}
 use Rattle.gates.proofs.Meaning.{IsValuation-Grows, value_of-constant}
 use Rattle.gates.specs.Literal.{Literal, span}
 use Rattle.word_bits.specs.Number.{xor}
 
-pub ruleset circuits = (Grows-refl, Grows-trans, IsValuation-Grows, value_of-constant)
+pub ruleset circuits = (Grows-refl, Grows-trans, AddsConjunctions-refl, AddsConjunctions-trans, IsValuation-Grows, value_of-constant)
 
 -- what the three gates of an exclusive or compute
 pub xor-gates : (a b : Bool) → not (a && b) && not (not a && not b) ≡ xor a b

@@ -1,5 +1,5 @@
 ghost use Rattle.std.specs.Prelude.{◌≡◌, Bool, ◌||◌, List, IfOk, if◌then◌else◌};
-ghost use Rattle.gates.specs.Nodes.{Grows, Belongs};
+ghost use Rattle.gates.specs.Nodes.{Grows, AddsConjunctions, Belongs};
 ghost use Rattle.gates.specs.Valuation.{value_of, IsValuation};
 ghost use Rattle.word_bits.specs.Number.{xor, carry};
 
@@ -14,6 +14,7 @@ pub(crate) fn or(g: &mut Gates, a: Lit, b: Lit) -> Result<Lit, AllocError>
     ensures meaning { IfOk result (λ l. (values : List Bool) → IsValuation g.new values → value_of values l ≡ (value_of values a || value_of values b)) }
     ensures belongs { IfOk result (Belongs g.new) }
     ensures grows { Grows g.old g.new }
+    ensures conjunctions { AddsConjunctions g.old g.new }
 {
     let neither = g.and(lit_not(a), lit_not(b))?;
     Ok(lit_not(neither))
@@ -27,6 +28,7 @@ pub(crate) fn differ(g: &mut Gates, a: Lit, b: Lit) -> Result<Lit, AllocError>
     ensures meaning { IfOk result (λ l. (values : List Bool) → IsValuation g.new values → value_of values l ≡ xor (value_of values a) (value_of values b)) }
     ensures belongs { IfOk result (Belongs g.new) }
     ensures grows { Grows g.old g.new }
+    ensures conjunctions { AddsConjunctions g.old g.new }
 {
     let both = g.and(a, b)?;
     let neither = g.and(lit_not(a), lit_not(b))?;
@@ -43,6 +45,7 @@ pub(crate) fn carry_of(g: &mut Gates, a: Lit, b: Lit, c: Lit) -> Result<Lit, All
     ensures meaning { IfOk result (λ l. (values : List Bool) → IsValuation g.new values → value_of values l ≡ carry (value_of values a) (value_of values b) (value_of values c)) }
     ensures belongs { IfOk result (Belongs g.new) }
     ensures grows { Grows g.old g.new }
+    ensures conjunctions { AddsConjunctions g.old g.new }
 {
     let apart = differ(g, a, b)?;
     let both = g.and(a, b)?;
@@ -60,6 +63,7 @@ pub(crate) fn sum_of(g: &mut Gates, a: Lit, b: Lit, c: Lit) -> Result<Lit, Alloc
     ensures meaning { IfOk result (λ l. (values : List Bool) → IsValuation g.new values → value_of values l ≡ xor (xor (value_of values a) (value_of values b)) (value_of values c)) }
     ensures belongs { IfOk result (Belongs g.new) }
     ensures grows { Grows g.old g.new }
+    ensures conjunctions { AddsConjunctions g.old g.new }
 {
     let apart = differ(g, a, b)?;
     let sum = differ(g, apart, c)?;
@@ -75,6 +79,7 @@ pub(crate) fn choose(g: &mut Gates, c: Lit, a: Lit, b: Lit) -> Result<Lit, Alloc
     ensures meaning { IfOk result (λ l. (values : List Bool) → IsValuation g.new values → value_of values l ≡ (if value_of values c then value_of values a else value_of values b)) }
     ensures belongs { IfOk result (Belongs g.new) }
     ensures grows { Grows g.old g.new }
+    ensures conjunctions { AddsConjunctions g.old g.new }
 {
     let first = g.and(c, a)?;
     let second = g.and(lit_not(c), b)?;

@@ -1,7 +1,7 @@
 #![tactic(auto, using(crate::proofs::Circuits::circuits, crate::proofs::Circuits::belongs))]
 
 ghost use Rattle.std.specs.Prelude.{◌≡◌, Bool, List, length, IfOk, if◌then◌else◌};
-ghost use Rattle.gates.specs.Nodes.{Grows, Belongs, AllBelong};
+ghost use Rattle.gates.specs.Nodes.{Grows, AddsConjunctions, Belongs, AllBelong};
 ghost use Rattle.gates.specs.Valuation.{value_of, values_of, IsValuation};
 ghost use Rattle.word_bits.specs.Words.{unsigned};
 
@@ -20,6 +20,7 @@ pub fn mux(alloc: Global, g: &mut Gates, c: Lit, a: &Lits, b: &Lits) -> Result<L
     ensures width { IfOk result (λ r. length r ≡ length a.now) }
     ensures belongs { IfOk result (AllBelong g.new) }
     ensures grows { Grows g.old g.new }
+    ensures conjunctions { AddsConjunctions g.old g.new }
 {
     let mut out = Lits::new(alloc);
     for i in 0..a.len() {

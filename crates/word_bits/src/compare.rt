@@ -2,7 +2,7 @@
 
 ghost use Rattle.std.specs.Prelude.{◌≡◌, ◌+◌, ◌-◌, ◌^◌, ◌<◌, ◌≤◌, ◌==◌, Bool, List, length, IfOk, nat_lt, nat_le, int_lt, [], ◌∷◌, ◌++◌, take, max};
 ghost use Rattle.gates.specs.Literal.{span};
-ghost use Rattle.gates.specs.Nodes.{Grows, Belongs, AllBelong};
+ghost use Rattle.gates.specs.Nodes.{Grows, AddsConjunctions, Belongs, AllBelong};
 ghost use Rattle.gates.specs.Valuation.{value_of, IsValuation};
 ghost use Rattle.word_bits.specs.Number.{digit};
 ghost use Rattle.word_bits.specs.Words.{unsigned, signed};
@@ -22,6 +22,7 @@ pub(crate) fn carry_out(g: &mut Gates, a: &Lits, b: &Lits, carry: Lit) -> Result
         value_of values l ≡ nat_le (2 ^ length a.now) (unsigned values a.now + unsigned values b.now + digit (value_of values carry))) }
     ensures belongs { IfOk result (Belongs g.new) }
     ensures grows { Grows g.old g.new }
+    ensures conjunctions { AddsConjunctions g.old g.new }
 {
     let mut through = carry;
     for i in 0..a.len() {
@@ -39,6 +40,7 @@ pub fn ult(alloc: Global, g: &mut Gates, a: &Lits, b: &Lits) -> Result<Lit, Allo
     ensures meaning { IfOk result (λ l. (values : List Bool) → IsValuation g.new values → value_of values l ≡ nat_lt (unsigned values a.now) (unsigned values b.now)) }
     ensures belongs { IfOk result (Belongs g.new) }
     ensures grows { Grows g.old g.new }
+    ensures conjunctions { AddsConjunctions g.old g.new }
 {
     let other = inverted(alloc, b)?;
     let above = carry_out(g, a, &other, Lit::TRUE)?;
@@ -54,6 +56,7 @@ pub fn slt(alloc: Global, g: &mut Gates, a: &Lits, b: &Lits) -> Result<Lit, Allo
     ensures meaning { IfOk result (λ l. (values : List Bool) → IsValuation g.new values → value_of values l ≡ int_lt (signed values a.now) (signed values b.now)) }
     ensures belongs { IfOk result (Belongs g.new) }
     ensures grows { Grows g.old g.new }
+    ensures conjunctions { AddsConjunctions g.old g.new }
 {
     let top = a.get(a.len() - 1);
     let other = b.get(b.len() - 1);
@@ -84,6 +87,7 @@ pub fn eq(_alloc: Global, g: &mut Gates, a: &Lits, b: &Lits) -> Result<Lit, Allo
     ensures meaning { IfOk result (λ l. (values : List Bool) → IsValuation g.new values → value_of values l ≡ (unsigned values a.now == unsigned values b.now)) }
     ensures belongs { IfOk result (Belongs g.new) }
     ensures grows { Grows g.old g.new }
+    ensures conjunctions { AddsConjunctions g.old g.new }
 {
     let mut same = Lit::TRUE;
     for i in 0..a.len() {

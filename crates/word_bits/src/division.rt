@@ -1,7 +1,7 @@
 #![tactic(auto, using(crate::proofs::Circuits::circuits, crate::proofs::Circuits::belongs))]
 
 ghost use Rattle.std.specs.Prelude.{◌≡◌, ◌+◌, ◌*◌, ◌/◌, ◌%◌, ◌^◌, ◌<◌, Bool, List, length, IfOk, ◌-◌, ◌==◌, int_div, int_rem, if◌then◌else◌};
-ghost use Rattle.gates.specs.Nodes.{Grows, Belongs, AllBelong};
+ghost use Rattle.gates.specs.Nodes.{Grows, AddsConjunctions, Belongs, AllBelong};
 ghost use Rattle.gates.specs.Valuation.{value_of, IsValuation};
 ghost use Rattle.word_bits.specs.Number.{digit, wrapped};
 ghost use Rattle.word_bits.specs.Words.{unsigned, signed};
@@ -31,6 +31,7 @@ pub fn udiv_rem(
     ensures quotient_belongs { IfOk result (λ r. AllBelong g.new r.0) }
     ensures remainder_belongs { IfOk result (λ r. AllBelong g.new r.1) }
     ensures grows { Grows g.old g.new }
+    ensures conjunctions { AddsConjunctions g.old g.new }
 {
     let mut quotient = Lits::new(alloc);
     let mut remainder = Lits::new(alloc);
@@ -66,6 +67,7 @@ fn divide_bit(
     ensures digit_belongs { IfOk result (λ r. Belongs g.new r.0) }
     ensures belongs { IfOk result (λ r. AllBelong g.new r.1) }
     ensures grows { Grows g.old g.new }
+    ensures conjunctions { AddsConjunctions g.old g.new }
 {
     let lowest = repeated(alloc, bit, 1)?;
     let shifted = concat(alloc, remainder, &lowest)?;
@@ -85,6 +87,7 @@ fn is_zero(g: &mut Gates, a: &Lits) -> Result<Lit, AllocError>
     ensures meaning { IfOk result (λ l. (values : List Bool) → IsValuation g.new values → value_of values l ≡ (unsigned values a.now == 0)) }
     ensures belongs { IfOk result (Belongs g.new) }
     ensures grows { Grows g.old g.new }
+    ensures conjunctions { AddsConjunctions g.old g.new }
 {
     let mut none = Lit::TRUE;
     for i in 0..a.len() {
@@ -115,6 +118,7 @@ pub fn sdiv_rem(
     ensures quotient_belongs { IfOk result (λ r. AllBelong g.new r.0) }
     ensures remainder_belongs { IfOk result (λ r. AllBelong g.new r.1) }
     ensures grows { Grows g.old g.new }
+    ensures conjunctions { AddsConjunctions g.old g.new }
 {
     let sign = a.get(a.len() - 1);
     let other = b.get(b.len() - 1);
@@ -137,6 +141,7 @@ fn negate_where(alloc: Global, g: &mut Gates, c: Lit, a: &Lits) -> Result<Lits, 
     ensures width { IfOk result (λ r. length r ≡ length a.now) }
     ensures belongs { IfOk result (AllBelong g.new) }
     ensures grows { Grows g.old g.new }
+    ensures conjunctions { AddsConjunctions g.old g.new }
 {
     let negation = neg(alloc, g, a)?;
     let chosen = mux(alloc, g, c, &negation, a)?;

@@ -1,7 +1,7 @@
 #![tactic(auto, using(crate::proofs::Circuits::circuits, crate::proofs::Circuits::belongs))]
 
 ghost use Rattle.std.specs.Prelude.{◌≡◌, ◌+◌, ◌*◌, ◌%◌, ◌^◌, ◌<◌, Bool, List, length, IfOk};
-ghost use Rattle.gates.specs.Nodes.{Grows, Belongs, AllBelong};
+ghost use Rattle.gates.specs.Nodes.{Grows, AddsConjunctions, Belongs, AllBelong};
 ghost use Rattle.gates.specs.Valuation.{value_of, IsValuation};
 ghost use Rattle.word_bits.specs.Number.{digit};
 ghost use Rattle.word_bits.specs.Words.{unsigned};
@@ -22,6 +22,7 @@ pub fn mul(alloc: Global, g: &mut Gates, a: &Lits, b: &Lits) -> Result<Lits, All
     ensures width { IfOk result (λ r. length r ≡ length a.now) }
     ensures belongs { IfOk result (AllBelong g.new) }
     ensures grows { Grows g.old g.new }
+    ensures conjunctions { AddsConjunctions g.old g.new }
 {
     let mut product = repeated(alloc, Lit::FALSE, a.len())?;
     for i in 0..a.len() {
@@ -49,6 +50,7 @@ fn add_row(
     ensures width { IfOk result (λ r. length r ≡ length a.now) }
     ensures belongs { IfOk result (AllBelong g.new) }
     ensures grows { Grows g.old g.new }
+    ensures conjunctions { AddsConjunctions g.old g.new }
 {
     let width = a.len() - at;
     let zeros = repeated(alloc, Lit::FALSE, width)?;

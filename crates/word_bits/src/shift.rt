@@ -2,7 +2,7 @@
 
 ghost use Rattle.std.specs.Prelude.{◌≡◌, ◌*◌, ◌%◌, ◌^◌, ◌<◌, ◌≤◌, Bool, List, length, IfOk, ◌/◌, true, false, pos};
 ghost use Rattle.std.specs.Int.{int_div_euclid};
-ghost use Rattle.gates.specs.Nodes.{Grows, Belongs, AllBelong};
+ghost use Rattle.gates.specs.Nodes.{Grows, AddsConjunctions, Belongs, AllBelong};
 ghost use Rattle.gates.specs.Valuation.{value_of, values_of, IsValuation};
 ghost use Rattle.word_bits.specs.Number.{digit, number_against};
 ghost use Rattle.word_bits.specs.Words.{unsigned, signed};
@@ -24,6 +24,7 @@ pub fn shl(alloc: Global, g: &mut Gates, a: &Lits, by: &Lits) -> Result<Lits, Al
     ensures width { IfOk result (λ r. length r ≡ length a.now) }
     ensures belongs { IfOk result (AllBelong g.new) }
     ensures grows { Grows g.old g.new }
+    ensures conjunctions { AddsConjunctions g.old g.new }
 {
     let mut shifted = a.copy(alloc)?;
     let mut distance = 1;
@@ -52,6 +53,7 @@ fn shift_up(
     ensures width { IfOk result (λ r. length r ≡ length a.now) }
     ensures belongs { IfOk result (AllBelong g.new) }
     ensures grows { Grows g.old g.new }
+    ensures conjunctions { AddsConjunctions g.old g.new }
 {
     let zeros = repeated(alloc, Lit::FALSE, distance)?;
     let kept = front(alloc, a, a.len() - distance)?;
@@ -81,6 +83,7 @@ pub fn shr(
     ensures width { IfOk result (λ r. length r ≡ length a.now) }
     ensures belongs { IfOk result (AllBelong g.new) }
     ensures grows { Grows g.old g.new }
+    ensures conjunctions { AddsConjunctions g.old g.new }
 {
     let fill = filling(a, copy_sign);
     let mut shifted = a.copy(alloc)?;
@@ -112,6 +115,7 @@ fn shift_down(
     ensures width { IfOk result (λ r. length r ≡ length a.now) }
     ensures belongs { IfOk result (AllBelong g.new) }
     ensures grows { Grows g.old g.new }
+    ensures conjunctions { AddsConjunctions g.old g.new }
 {
     let filled = repeated(alloc, fill, distance)?;
     let kept = tail(alloc, a, distance)?;

@@ -1,7 +1,7 @@
 #![tactic(auto, using(crate::proofs::Circuits::circuits, crate::proofs::Circuits::belongs))]
 
 ghost use Rattle.std.specs.Prelude.{◌≡◌, ◌+◌, ◌*◌, ◌-◌, ◌%◌, ◌^◌, ◌<◌, Bool, List, length, IfOk};
-ghost use Rattle.gates.specs.Nodes.{Grows, Belongs, AllBelong};
+ghost use Rattle.gates.specs.Nodes.{Grows, AddsConjunctions, Belongs, AllBelong};
 ghost use Rattle.gates.specs.Valuation.{value_of, IsValuation};
 ghost use Rattle.word_bits.specs.Number.{digit};
 ghost use Rattle.word_bits.specs.Words.{unsigned};
@@ -29,6 +29,7 @@ pub(crate) fn add_with_carry(
     ensures belongs { IfOk result (λ r. AllBelong g.new r.0) }
     ensures carry_belongs { IfOk result (λ r. Belongs g.new r.1) }
     ensures grows { Grows g.old g.new }
+    ensures conjunctions { AddsConjunctions g.old g.new }
 {
     let mut sum = Lits::new(alloc);
     let mut through = carry;
@@ -61,6 +62,7 @@ pub(crate) fn subtract(
     ensures belongs { IfOk result (λ r. AllBelong g.new r.0) }
     ensures carry_belongs { IfOk result (λ r. Belongs g.new r.1) }
     ensures grows { Grows g.old g.new }
+    ensures conjunctions { AddsConjunctions g.old g.new }
 {
     let other = inverted(alloc, b)?;
     let (difference, carry) = add_with_carry(alloc, g, a, &other, Lit::TRUE)?;
@@ -77,6 +79,7 @@ pub fn add(alloc: Global, g: &mut Gates, a: &Lits, b: &Lits) -> Result<Lits, All
     ensures width { IfOk result (λ r. length r ≡ length a.now) }
     ensures belongs { IfOk result (AllBelong g.new) }
     ensures grows { Grows g.old g.new }
+    ensures conjunctions { AddsConjunctions g.old g.new }
 {
     let (sum, _carry) = add_with_carry(alloc, g, a, b, Lit::FALSE)?;
     Ok(sum)
@@ -92,6 +95,7 @@ pub fn sub(alloc: Global, g: &mut Gates, a: &Lits, b: &Lits) -> Result<Lits, All
     ensures width { IfOk result (λ r. length r ≡ length a.now) }
     ensures belongs { IfOk result (AllBelong g.new) }
     ensures grows { Grows g.old g.new }
+    ensures conjunctions { AddsConjunctions g.old g.new }
 {
     let (difference, _carry) = subtract(alloc, g, a, b)?;
     Ok(difference)
@@ -105,6 +109,7 @@ pub fn neg(alloc: Global, g: &mut Gates, a: &Lits) -> Result<Lits, AllocError>
     ensures width { IfOk result (λ r. length r ≡ length a.now) }
     ensures belongs { IfOk result (AllBelong g.new) }
     ensures grows { Grows g.old g.new }
+    ensures conjunctions { AddsConjunctions g.old g.new }
 {
     let zero = repeated(alloc, Lit::FALSE, a.len())?;
     let (negation, _carry) = subtract(alloc, g, &zero, a)?;

@@ -19,4 +19,5 @@ loop-i-preserved c =
           (c.loop-i.invariant.bits values (IsValuation-Grows c.in_ok-bit.ensures.grows v)));
       belongs = grind (arith, belongs, c.in_ok-push.ensures.ok);
       grows = grind (arith, circuits);
+      conjunctions = grind (arith, circuits);
     }

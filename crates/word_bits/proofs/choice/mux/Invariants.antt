@@ -1,5 +1,5 @@
 use Rattle.std.proofs.Common.{◌≡◌, Bool, List, length, take, cond}
-use Rattle.gates.specs.Nodes.{Grows, AllBelong}
+use Rattle.gates.specs.Nodes.{Grows, AddsConjunctions, AllBelong}
 use Rattle.gates.specs.Valuation.{value_of, values_of, IsValuation}
 use Rattle.word_bits.proofs.choice.mux.Given as goal
 
@@ -10,4 +10,5 @@ invariant-loop-i l = record {
   bits : (values : List Bool) → IsValuation l.g values → values_of values l.out ≡ cond (value_of values l.c) (values_of values (take l.i l.a)) (values_of values (take l.i l.b));
   belongs : AllBelong l.g l.out;
   grows : Grows l.fn.g l.g;
+  conjunctions : AddsConjunctions l.fn.g l.g;
 }

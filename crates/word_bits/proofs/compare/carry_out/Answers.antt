@@ -17,4 +17,5 @@ loop-i-preserved c =
           (c.loop-i.invariant.meaning values (IsValuation-Grows c.in_ok-through.ensures.grows v));
       belongs = c.in_ok-through.ensures.belongs;
       grows = grind (arith, circuits);
+      conjunctions = grind (arith, circuits);
     }

@@ -10,6 +10,7 @@ loop-i-init c = record {
   meaning = λ values v. (value_of-constant v).0;
   belongs = grind (arith, belongs);
   grows = grind (arith, circuits);
+  conjunctions = grind (arith, circuits);
 }
 
 pub loop-i-preserved : goal.loop-i-preserved
@@ -26,4 +27,5 @@ loop-i-preserved c =
           (c.loop-i.invariant.meaning values v0);
       belongs = c.in_ok-same.ensures.belongs;
       grows = grind (arith, circuits);
+      conjunctions = grind (arith, circuits);
     }

@@ -13,6 +13,7 @@ loop-i-init c = record {
   meaning = λ values v. (value_of-constant v).0 ∙ sym (ap (λ l. eqb (unsigned values l) 0) (drop_all (length c.args.a.now - 0) c.args.a.now (omega arith)));
   belongs = grind (arith, belongs);
   grows = grind (arith, circuits);
+  conjunctions = grind (arith, circuits);
 }
 
 pub loop-i-preserved : goal.loop-i-preserved
@@ -27,4 +28,5 @@ loop-i-preserved c =
           (c.loop-i.invariant.meaning values (IsValuation-Grows c.in_ok-none.ensures.grows v));
       belongs = c.in_ok-none.ensures.belongs;
       grows = grind (arith, circuits);
+      conjunctions = grind (arith, circuits);
     }

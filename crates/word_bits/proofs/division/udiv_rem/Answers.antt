@@ -20,6 +20,7 @@ loop-i-init c =
       quotient_belongs = grind (arith, belongs, c.new-quotient.ensures);
       remainder_belongs = grind (arith, belongs, c.new-remainder.ensures);
       grows = grind (arith, circuits);
+      conjunctions = grind (arith, circuits);
     }
 
 pub loop-i-preserved : goal.loop-i-preserved
@@ -42,6 +43,7 @@ loop-i-preserved c =
       quotient_belongs = grind (arith, belongs, c.in_ok-quotient.ensures.literals, c.in_ok-single.ensures);
       remainder_belongs = c.in_ok-digit.ensures.belongs;
       grows = grind (arith, circuits);
+      conjunctions = grind (arith, circuits);
     }
 
 pub returns-clause-quotient : goal.returns-clause-quotient

@@ -1,5 +1,5 @@
 use Rattle.std.proofs.Common.{◌≡◌, ◌+◌, ◌*◌, ◌-◌, ◌<◌, Bool, List, length, drop}
-use Rattle.gates.specs.Nodes.{Grows, AllBelong}
+use Rattle.gates.specs.Nodes.{Grows, AddsConjunctions, AllBelong}
 use Rattle.gates.specs.Valuation.{IsValuation}
 use Rattle.word_bits.specs.Words.{unsigned}
 use Rattle.word_bits.proofs.division.udiv_rem.Given as goal
@@ -14,4 +14,5 @@ invariant-loop-i l = record {
   quotient_belongs : AllBelong l.g l.quotient;
   remainder_belongs : AllBelong l.g l.remainder;
   grows : Grows l.fn.g l.g;
+  conjunctions : AddsConjunctions l.fn.g l.g;
 }

@@ -16,6 +16,7 @@ loop-i-init c = record {
   spells = λ values v. zero_product (unsigned values c.args.a.now) (2 ^ length c.args.a.now) _ (pow_pos (length c.args.a.now)) (ap (unsigned values) c.in_ok-product.ensures ∙ unsigned-zeros v _);
   belongs = grind (arith, belongs, c.in_ok-product.ensures);
   grows = grind (arith, circuits);
+  conjunctions = grind (arith, circuits);
 }
 
 pub loop-i-preserved : goal.loop-i-preserved
@@ -34,4 +35,5 @@ loop-i-preserved c =
           ∙ ap (λ n. (a * n) % m) (sym (unsigned-more values c.args.b.now c.loop-i.i in_b ∙ ap (λ l. t + p * digit (value_of values l)) (sym c.get.ensures)));
       belongs = c.in_ok-product-2.ensures.belongs;
       grows = grind (arith, circuits);
+      conjunctions = grind (arith, circuits);
     }

@@ -16,6 +16,7 @@ loop-i-init c = record {
   spells = λ values v. ap (unsigned values) c.in_ok-shifted.ensures ∙ first_stage (unsigned values c.args.a.now) (2 ^ length c.args.a.now) (unsigned-below values c.args.a.now);
   belongs = grind (arith, belongs, c.in_ok-shifted.ensures);
   grows = grind (arith, circuits);
+  conjunctions = grind (arith, circuits);
 }
 
 pub loop-i-preserved : goal.loop-i-preserved
@@ -37,6 +38,7 @@ loop-i-preserved c =
           ∙ ap (λ n. (a * 2 ^ n) % m) (sym (unsigned-more values c.args.by.now c.loop-i.i in_by ∙ ap (λ l. t + 2 ^ c.loop-i.i * digit (value_of values l)) (sym c.get.ensures)));
       belongs = c.in_ok-shifted-2.ensures.belongs;
       grows = grind (arith, circuits);
+      conjunctions = grind (arith, circuits);
     }
 
 pub returns-clause-shifted : goal.returns-clause-shifted

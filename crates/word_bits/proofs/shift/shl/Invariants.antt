@@ -1,5 +1,5 @@
 use Rattle.std.proofs.Common.{◌≡◌, ◌*◌, ◌-◌, ◌%◌, ◌^◌, ◌≤◌, Bool, List, length, take}
-use Rattle.gates.specs.Nodes.{Grows, AllBelong}
+use Rattle.gates.specs.Nodes.{Grows, AddsConjunctions, AllBelong}
 use Rattle.gates.specs.Valuation.{IsValuation}
 use Rattle.word_bits.specs.Words.{unsigned}
 use Rattle.word_bits.proofs.shift.shl.Given as goal
@@ -13,6 +13,7 @@ invariant-loop-i l = record {
   spells : (values : List Bool) → IsValuation l.g values → unsigned values l.shifted ≡ (unsigned values l.a * 2 ^ unsigned values (take l.i l.by)) % 2 ^ length l.a;
   belongs : AllBelong l.g l.shifted;
   grows : Grows l.fn.g l.g;
+  conjunctions : AddsConjunctions l.fn.g l.g;
 }
 
 abbrev pub decreases-loop-i : goal.decreases-loop-i

@@ -18,6 +18,7 @@ loop-i-init c = record {
       ap (λ l. number_against f (values_of values l)) c.in_ok-shifted.ensures ∙ sym (div-one (number_against f (values_of values c.args.a.now)));
   belongs = grind (arith, belongs, c.in_ok-shifted.ensures);
   grows = grind (arith, circuits);
+  conjunctions = grind (arith, circuits);
 }
 
 pub loop-i-preserved : goal.loop-i-preserved
@@ -39,6 +40,7 @@ loop-i-preserved c =
           ∙ ap (λ n. a / 2 ^ n) (sym (unsigned-more values c.args.by.now c.loop-i.i in_by ∙ ap (λ l. t + 2 ^ c.loop-i.i * digit (value_of values l)) (sym c.get.ensures)));
       belongs = c.in_ok-shifted-2.ensures.belongs;
       grows = grind (arith, circuits);
+      conjunctions = grind (arith, circuits);
     }
 
 pub returns-clause-number : goal.returns-clause-number

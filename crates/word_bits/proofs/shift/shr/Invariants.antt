@@ -1,5 +1,5 @@
 use Rattle.std.proofs.Common.{◌≡◌, ◌-◌, ◌/◌, ◌^◌, ◌≤◌, Bool, List, length, take}
-use Rattle.gates.specs.Nodes.{Grows, AllBelong}
+use Rattle.gates.specs.Nodes.{Grows, AddsConjunctions, AllBelong}
 use Rattle.gates.specs.Valuation.{value_of, values_of, IsValuation}
 use Rattle.word_bits.specs.Number.{number_against}
 use Rattle.word_bits.specs.Words.{unsigned}
@@ -14,6 +14,7 @@ invariant-loop-i l = record {
   spells : (values : List Bool) → IsValuation l.g values → number_against (value_of values l.fill) (values_of values l.shifted) ≡ number_against (value_of values l.fill) (values_of values l.a) / 2 ^ unsigned values (take l.i l.by);
   belongs : AllBelong l.g l.shifted;
   grows : Grows l.fn.g l.g;
+  conjunctions : AddsConjunctions l.fn.g l.g;
 }
 
 abbrev pub decreases-loop-i : goal.decreases-loop-i

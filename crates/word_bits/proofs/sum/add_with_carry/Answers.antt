@@ -21,4 +21,5 @@ loop-i-preserved c =
       belongs = grind (arith, belongs, c.in_ok-push.ensures.ok);
       carry_belongs = c.in_ok-through.ensures.belongs;
       grows = grind (arith, circuits);
+      conjunctions = grind (arith, circuits);
     }

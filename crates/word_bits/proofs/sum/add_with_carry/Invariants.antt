@@ -1,5 +1,5 @@
 use Rattle.std.proofs.Common.{◌≡◌, ◌+◌, ◌*◌, ◌^◌, Bool, List, length, take}
-use Rattle.gates.specs.Nodes.{Grows, Belongs, AllBelong}
+use Rattle.gates.specs.Nodes.{Grows, AddsConjunctions, Belongs, AllBelong}
 use Rattle.gates.specs.Valuation.{value_of, IsValuation}
 use Rattle.word_bits.specs.Number.{digit}
 use Rattle.word_bits.specs.Words.{unsigned}
@@ -13,4 +13,5 @@ invariant-loop-i l = record {
   belongs : AllBelong l.g l.sum;
   carry_belongs : Belongs l.g l.through;
   grows : Grows l.fn.g l.g;
+  conjunctions : AddsConjunctions l.fn.g l.g;
 }

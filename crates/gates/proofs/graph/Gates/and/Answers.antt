@@ -1,4 +1,6 @@
 use Rattle.std.proofs.Common.{◌≡◌, Option, None, Some, sym, ◌∙◌, subst}
+use Rattle.gates.specs.Sharing.{earlier, later}
+use Rattle.gates.proofs.Growth.{AddsConjunctions-refl, AddsConjunctions-one}
 use Rattle.gates.proofs.Meaning.{Means, conjunction_means, conjunction-Grows, Stands-joined, Means-joined}
 use Rattle.gates.proofs.graph.Gates.and.Goals as goal
 
@@ -30,3 +32,10 @@ returns-in-None-clause-stands c =
 pub returns-in-None-clause-meaning : goal.returns-in-None-clause-meaning
 returns-in-None-clause-meaning c =
     Means-joined c.args.self.now c.join.new.self c.args.a c.args.b c.join.result (sym c.in-None.ensures.value) c.join.ensures.added c.join.ensures.literal c.join.ensures.well_formed
+
+pub returns-in-Some-clause-conjunctions : goal.returns-in-Some-clause-conjunctions
+returns-in-Some-clause-conjunctions c = AddsConjunctions-refl c.args.self.now
+
+pub returns-in-None-clause-conjunctions : goal.returns-in-None-clause-conjunctions
+returns-in-None-clause-conjunctions c =
+    AddsConjunctions-one c.args.self.now c.join.new.self (earlier c.args.a c.args.b) (later c.args.a c.args.b) c.join.result c.join.ensures.added c.join.ensures.err

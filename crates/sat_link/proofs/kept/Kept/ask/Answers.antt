@@ -1,23 +1,37 @@
-use Rattle.std.proofs.Common.{◌≡◌, length, sym, subst, ◌∙◌}
+use Rattle.std.proofs.Common.{◌≤◌, length, ap, sym, subst, ◌∙◌, Ok}
+use Rattle.std.specs.declared.alloc.AllocError.{AllocError}
 use Rattle.sat_log.specs.Clause.{HasDistinctVariables}
 use Rattle.sat_log.specs.Checking.{IsUpTo}
 use Rattle.sat_log.specs.Accepted.{originals}
-use Rattle.sat_core.specs.Gained.{gained, conflicts, HasNoFinal}
 use Rattle.sat_core.specs.Assignment.{HasNoSolution as HasNoAssignment}
-use Rattle.sat_core.specs.Verdicts.{IsBelow}
-use Rattle.sat_link.specs.Definitional.{IsDefinitional, IsWhole}
-use Rattle.sat_link.specs.Answers.{IsSolution, HasNoSolution}
-use Rattle.sat_link.proofs.Gaining.{learned_after, learned_only, conflicts_after, no_final_after}
-use Rattle.sat_link.proofs.Answering.{distinct_encoded, up_to_encoded, whole_originals, solution_found, no_solution, valued, yes_answered, no_answered, spent_answered, if_ok}
+use Rattle.sat_core.specs.Gains.{Gains, outcome as outcome_found, stopped}
+use Rattle.sat_link.specs.Encoding.{all_encoded, definitions}
+use Rattle.sat_link.specs.Definitional.{IsWhole}
+use Rattle.sat_link.specs.Answers.{HasNoSolution}
+use Rattle.sat_link.proofs.Growing.{defined_definitional, searched_definitional}
+use Rattle.sat_link.proofs.Gaining.{gains_after, gains_only}
+use Rattle.sat_link.proofs.Answering.{distinct_encoded, up_to_encoded, whole_originals, no_solution, valued, yes_told, no_told, gains_told, gains_stopped, if_ok}
 use Rattle.sat_link.proofs.kept.Kept.ask.Goals as goal
 
 -- Memory was refused before the search.
 
-pub returns-in_err-define-clause-learned : goal.returns-in_err-define-clause-learned
-returns-in_err-define-clause-learned c = learned_only c.args.self.now.log c.define.new.self.log c.define.ensures.towards.log
+pub returns-in_err-define_all-clause-gains : goal.returns-in_err-define_all-clause-gains
+returns-in_err-define_all-clause-gains c =
+    let new = c.define_all.new.self in
+    gains_stopped new.variables c.args.budget (all_encoded c.args.want.now) c.args.self.now.log new.log _ c.from_residual.result c.from_residual.ensures.1
+    (gains_only new.variables c.args.budget (all_encoded c.args.want.now) c.args.self.now.log new.log c.define_all.ensures.towards.log c.define_all.ensures.kept.is_log)
 
-pub returns-in_err-want-clause-learned : goal.returns-in_err-want-clause-learned
-returns-in_err-want-clause-learned c = learned_only c.args.self.now.log c.define.new.self.log c.define.ensures.towards.log
+pub returns-in_err-define_all-clause-definitional : goal.returns-in_err-define_all-clause-definitional
+returns-in_err-define_all-clause-definitional c = defined_definitional c.define_all.new.self c.args.g.now c.define_all.ensures.kept c.define_all.ensures.towards.prefix
+
+pub returns-in_err-want-clause-gains : goal.returns-in_err-want-clause-gains
+returns-in_err-want-clause-gains c =
+    let new = c.define_all.new.self in
+    gains_stopped new.variables c.args.budget (all_encoded c.args.want.now) c.args.self.now.log new.log _ c.from_residual-in_err-want.result c.from_residual-in_err-want.ensures.1
+    (gains_only new.variables c.args.budget (all_encoded c.args.want.now) c.args.self.now.log new.log c.define_all.ensures.towards.log c.define_all.ensures.kept.is_log)
+
+pub returns-in_err-want-clause-definitional : goal.returns-in_err-want-clause-definitional
+returns-in_err-want-clause-definitional c = defined_definitional c.define_all.new.self c.args.g.now c.define_all.ensures.kept c.define_all.ensures.towards.prefix
 
 -- What is wanted, over variables.
 
@@ -26,78 +40,52 @@ search-requires-clause-distinct c = subst HasDistinctVariables (sym c.in_ok-want
 
 pub search-requires-clause-exist : goal.search-requires-clause-exist
 search-requires-clause-exist c =
-    subst (IsUpTo (length c.define.new.self.nodes)) (sym c.in_ok-want.ensures)
-    (up_to_encoded (length c.define.new.self.nodes) c.args.want.now (rw c.in_ok-define.ensures.nodes c.requires.exist))
+    subst (IsUpTo (length c.define_all.new.self.nodes)) (sym c.in_ok-want.ensures)
+    (up_to_encoded (length c.define_all.new.self.nodes) c.args.want.now (rw c.in_ok-define_all.ensures.nodes c.requires.exist))
 
-pub returns-in_err-found-clause-learned : goal.returns-in_err-found-clause-learned
-returns-in_err-found-clause-learned c =
-    learned_after c.args.self.now.log c.define.new.self.log c.search.new.self.log c.define.ensures.towards.log c.search.ensures.longer c.search.ensures.learned
+-- After the search.
 
--- What is found, over nodes.
+pub returns-in_err-found-clause-gains : goal.returns-in_err-found-clause-gains
+returns-in_err-found-clause-gains c =
+    let new = c.search.new.self in
+    let mid = c.define_all.new.self in
+    gains_stopped new.variables c.args.budget (all_encoded c.args.want.now) c.args.self.now.log new.log _ c.from_residual-in_err-found.result c.from_residual-in_err-found.ensures.1
+    (gains_after new.variables c.args.budget (all_encoded c.args.want.now) c.args.self.now.log mid.log new.log stopped c.define_all.ensures.towards.log
+    (subst (λ want. Gains new.variables c.args.budget want mid.log new.log stopped) c.in_ok-want.ensures c.in_err-found.ensures.gains))
+
+pub returns-in_err-found-clause-definitional : goal.returns-in_err-found-clause-definitional
+returns-in_err-found-clause-definitional c = searched_definitional c.define_all.new.self c.search.new.self c.args.g.now c.search.ensures.kept c.search.ensures.nodes c.define_all.ensures.towards.prefix
 
 pub answer-requires : goal.answer-requires
 answer-requires c =
-    let g = c.args.g.now in
-    let found = c.in_ok-found in
-    valued g c.args.want.now found.found
-    (solution_found g c.search.new.self.log c.args.want.now c.in_ok-want.want c.search.new.self.nodes found.found c.in_ok-define.ensures.well_formed
-    (c.search.ensures.originals ∙ c.in_ok-define.ensures.all) (c.search.ensures.nodes ∙ c.in_ok-define.ensures.nodes) c.in_ok-want.ensures found.ensures.yes)
+    let new = c.search.new.self in
+    let all = c.in_ok-define_all.ensures.nodes in
+    let enough = subst (λ ns. length ns ≤ new.variables) (c.search.ensures.nodes ∙ all) c.search.ensures.enough in
+    valued c.args.g.now new.log c.in_ok-want.want new.variables c.in_ok-found.found (whole_originals c.args.g.now c.search.new.self.log c.define_all.ensures.well_formed (c.search.ensures.kept.clauses ∙ ap definitions (c.search.ensures.nodes ∙ c.in_ok-define_all.ensures.nodes))) enough c.in_ok-found.ensures.yes
 
 pub returns-clause-yes : goal.returns-clause-yes
 returns-clause-yes c =
-    let g = c.args.g.now in
-    let found = c.in_ok-found in
-    yes_answered found.found c.answer.result (IsSolution g c.args.want.now) (IsSolution g c.args.want.now) c.answer.ensures (λ bits s. s)
-    (solution_found g c.search.new.self.log c.args.want.now c.in_ok-want.want c.search.new.self.nodes found.found c.in_ok-define.ensures.well_formed
-    (c.search.ensures.originals ∙ c.in_ok-define.ensures.all) (c.search.ensures.nodes ∙ c.in_ok-define.ensures.nodes) c.in_ok-want.ensures found.ensures.yes)
+    let new = c.search.new.self in
+    yes_told c.args.g.now new.log c.args.want.now c.in_ok-want.want new.variables c.in_ok-found.found c.answer.result c.requires.exist c.in_ok-want.ensures c.answer.ensures c.in_ok-found.ensures.yes
 
 pub returns-clause-refuted : goal.returns-clause-refuted
 returns-clause-refuted c =
-    let g = c.args.g.now in
     let log = c.search.new.self.log in
-    let d = subst (IsDefinitional g) (sym c.search.ensures.originals) c.define.ensures.towards.definitional in
-    no_answered c.in_ok-found.found c.answer.result (λ _. HasNoAssignment log c.in_ok-want.want) (λ _. HasNoSolution g c.args.want.now) c.answer.ensures
-    (λ id none. no_solution g log c.args.want.now d (subst (HasNoAssignment log) c.in_ok-want.ensures none)) c.in_ok-found.ensures.refuted
+    no_told c.args.g.now c.in_ok-found.found c.answer.result (HasNoAssignment log c.in_ok-want.want) (HasNoSolution c.args.g.now c.args.want.now)
+    (λ none. no_solution c.args.g.now log c.args.want.now (searched_definitional c.define_all.new.self c.search.new.self c.args.g.now c.search.ensures.kept c.search.ensures.nodes c.define_all.ensures.towards.prefix) (subst (HasNoAssignment log) c.in_ok-want.ensures none)) c.answer.ensures c.in_ok-found.ensures.refuted
 
-same_conflicts : (c : goal.Joined-want-2) → conflicts (gained c.define.new.self.log c.search.new.self.log) ≡ conflicts (gained c.args.self.now.log c.search.new.self.log)
-same_conflicts c = conflicts_after c.args.self.now.log c.define.new.self.log c.search.new.self.log c.define.ensures.towards.log c.search.ensures.longer
+pub returns-clause-gains : goal.returns-clause-gains
+returns-clause-gains c =
+    let new = c.search.new.self in
+    let mid = c.define_all.new.self in
+    let end = outcome_found {E = AllocError} (Ok c.in_ok-found.found) in
+    gains_told c.args.g.now new.variables c.args.budget (all_encoded c.args.want.now) c.args.self.now.log new.log c.in_ok-found.found c.answer.result c.answer.ensures
+    (gains_after new.variables c.args.budget (all_encoded c.args.want.now) c.args.self.now.log mid.log new.log end c.define_all.ensures.towards.log
+    (subst (λ want. Gains new.variables c.args.budget want mid.log new.log end) c.in_ok-want.ensures c.in_ok-found.ensures.gains))
 
-pub returns-clause-spent_all : goal.returns-clause-spent_all
-returns-clause-spent_all c =
-    spent_answered c.in_ok-found.found c.answer.result (λ n. conflicts (gained c.define.new.self.log c.search.new.self.log) ≡ n) (λ n. conflicts (gained c.args.self.now.log c.search.new.self.log) ≡ n) c.answer.ensures
-    (λ n e. sym (same_conflicts c) ∙ e) c.in_ok-found.ensures.spent_all
-
-pub returns-clause-yes_within : goal.returns-clause-yes_within
-returns-clause-yes_within c =
-    yes_answered c.in_ok-found.found c.answer.result (λ _. IsBelow c.args.budget (conflicts (gained c.define.new.self.log c.search.new.self.log)))
-    (λ _. IsBelow c.args.budget (conflicts (gained c.args.self.now.log c.search.new.self.log))) c.answer.ensures
-    (λ bits below. subst (IsBelow c.args.budget) (same_conflicts c) below) c.in_ok-found.ensures.yes_within
-
-pub returns-clause-no_within : goal.returns-clause-no_within
-returns-clause-no_within c =
-    no_answered c.in_ok-found.found c.answer.result (λ _. IsBelow c.args.budget (conflicts (gained c.define.new.self.log c.search.new.self.log)))
-    (λ _. IsBelow c.args.budget (conflicts (gained c.args.self.now.log c.search.new.self.log))) c.answer.ensures
-    (λ id below. subst (IsBelow c.args.budget) (same_conflicts c) below) c.in_ok-found.ensures.no_within
-
-pub returns-clause-learned : goal.returns-clause-learned
-returns-clause-learned c =
-    learned_after c.args.self.now.log c.define.new.self.log c.search.new.self.log c.define.ensures.towards.log c.search.ensures.longer c.search.ensures.learned
-
--- without a final line in the search there is none in the question
-still_no_final : (c : goal.Joined-want-2) → HasNoFinal (gained c.define.new.self.log c.search.new.self.log) → HasNoFinal (gained c.args.self.now.log c.search.new.self.log)
-still_no_final c = no_final_after c.args.self.now.log c.define.new.self.log c.search.new.self.log c.define.ensures.towards.log c.search.ensures.longer
-
-pub returns-clause-yes_final : goal.returns-clause-yes_final
-returns-clause-yes_final c =
-    yes_answered c.in_ok-found.found c.answer.result (λ _. HasNoFinal (gained c.define.new.self.log c.search.new.self.log)) (λ _. HasNoFinal (gained c.args.self.now.log c.search.new.self.log)) c.answer.ensures
-    (λ bits none. still_no_final c none) c.in_ok-found.ensures.yes_final
-
-pub returns-clause-spent_final : goal.returns-clause-spent_final
-returns-clause-spent_final c =
-    spent_answered c.in_ok-found.found c.answer.result (λ _. HasNoFinal (gained c.define.new.self.log c.search.new.self.log)) (λ _. HasNoFinal (gained c.args.self.now.log c.search.new.self.log)) c.answer.ensures
-    (λ n none. still_no_final c none) c.in_ok-found.ensures.spent_final
+pub returns-clause-definitional : goal.returns-clause-definitional
+returns-clause-definitional c = searched_definitional c.define_all.new.self c.search.new.self c.args.g.now c.search.ensures.kept c.search.ensures.nodes c.define_all.ensures.towards.prefix
 
 pub returns-clause-whole : goal.returns-clause-whole
 returns-clause-whole c =
-    let whole = whole_originals c.args.g.now c.search.new.self.log c.in_ok-define.ensures.well_formed (c.search.ensures.originals ∙ c.in_ok-define.ensures.all) in
-    if_ok c.answer.result (IsWhole c.args.g.now (originals c.search.new.self.log)) whole
+    if_ok c.answer.result (IsWhole c.args.g.now (originals c.search.new.self.log)) (whole_originals c.args.g.now c.search.new.self.log c.define_all.ensures.well_formed (c.search.ensures.kept.clauses ∙ ap definitions (c.search.ensures.nodes ∙ c.in_ok-define_all.ensures.nodes)))

@@ -1,0 +1,12 @@
+use Rattle.std.proofs.Common.{◌≡◌, ◌≤◌, length}
+use Rattle.sat_link.specs.Contents.{HasDefinitions, GrowsTowards}
+use Rattle.sat_link.proofs.kept.Kept.define_all.Given as goal
+
+-- the first nodes have their clauses
+abbrev pub invariant-loop-n : goal.invariant-loop-n
+invariant-loop-n l = record {
+  count : length l.self.nodes ≡ l.n;
+  within : l.n ≤ length l.g;
+  towards : GrowsTowards l.g l.fn.self l.self;
+  kept : HasDefinitions l.self;
+}

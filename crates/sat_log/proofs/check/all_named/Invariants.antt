@@ -1,6 +1,0 @@
-use Rattle.std.proofs.Common.{◌≡◌, drop}
-use Rattle.sat_log.specs.Reading.{all_named}
-use Rattle.sat_log.proofs.check.all_named.Given as goal
-
-abbrev pub invariant-loop-id : goal.invariant-loop-id
-invariant-loop-id l = all_named l.lines (drop l.id-index l.hints) ≡ all_named l.lines l.hints

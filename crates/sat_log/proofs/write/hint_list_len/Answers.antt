@@ -1,6 +1,0 @@
-use Rattle.std.proofs.Common.{arith}
-use Rattle.sat_log.proofs.TextLemmas.{length-hints}
-use Rattle.sat_log.proofs.write.hint_list_len.Goals as goal
-
-pub returns : goal.returns
-returns c = omega (arith, length-hints c.args.hints.now)
