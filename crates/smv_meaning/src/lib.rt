@@ -7,7 +7,9 @@
 //! definitions.
 
 mod laws;
+mod one_naming;
 
 pub use laws::{
     constant_is_its_value, front_of_run_is_run, members_keep_their_order, next_is_one_step,
 };
+pub use one_naming::{each_expression_has_one_list_of_values, each_moment_has_one_naming};
