@@ -4,3 +4,4 @@ pub mod Agreement
 pub mod Settling
 pub mod FirstNames
 pub mod NamedDefinitions
+pub mod NamedOrNot

@@ -22,7 +22,7 @@ abbrev pub actual_in : List Body → List (List ℕ) → Tree → Target
 actual_in program [] = λ _. to_nothing
 actual_in program (n ∷ around) = actual_target around (resolve program around)
 
-resolve-from : (program : List Body) (up names : List (List ℕ)) → resolve program up names ≡ resolve_from program (actual_in program up) up names
+pub resolve-from : (program : List Body) (up names : List (List ℕ)) → resolve program up names ≡ resolve_from program (actual_in program up) up names
 resolve-from program [] names = refl
 resolve-from program (n ∷ around) names = refl
 
@@ -30,7 +30,7 @@ resolve-from program (n ∷ around) names = refl
 abbrev pub looked_up : List Body → List (List ℕ) → List ℕ → List (List ℕ) → Option Instance → Target
 looked_up program up n rest o = elim o [ Some i ↦ follow (instances program) (first_target program (actual_in program up) i n) rest | None ↦ to_nothing ]
 
-resolve-found : (program : List Body) (up : List (List ℕ)) (n : List ℕ) (rest : List (List ℕ)) → resolve program up (n ∷ rest) ≡ looked_up program up n rest (instance_at (instances program) up)
+pub resolve-found : (program : List Body) (up : List (List ℕ)) (n : List ℕ) (rest : List (List ℕ)) → resolve program up (n ∷ rest) ≡ looked_up program up n rest (instance_at (instances program) up)
 resolve-found program up n rest = resolve-from program up (n ∷ rest)
 
 -- a path goes through its front
@@ -48,7 +48,7 @@ follow-last all (to_instance up) (m ∷ front) n = by_instance (instance_at all 
     by_instance (Some i) rest = rest (member_of i.path i.up m i.body.parts to_nothing)
     by_instance None rest = refl
 
-resolve-last : (program : List Body) (up : List (List ℕ)) (m : List ℕ) (front : List (List ℕ)) (n : List ℕ) → resolve program up (m ∷ (front ++ n ∷ [])) ≡ follow (instances program) (resolve program up (m ∷ front)) (n ∷ [])
+pub resolve-last : (program : List Body) (up : List (List ℕ)) (m : List ℕ) (front : List (List ℕ)) (n : List ℕ) → resolve program up (m ∷ (front ++ n ∷ [])) ≡ follow (instances program) (resolve program up (m ∷ front)) (n ∷ [])
 resolve-last program up m front n =
     resolve-found program up m (front ++ n ∷ []) ∙ (by_instance (instance_at (instances program) up) ∙ ap (λ t. follow (instances program) t (n ∷ [])) (sym (resolve-found program up m front)))
   where
@@ -57,7 +57,7 @@ resolve-last program up m front n =
     by_instance None = refl
 
 -- what one further name stands for behind an instance
-follow-one : (all : List Instance) (up : List (List ℕ)) (n : List ℕ) (i : Instance) → instance_at all up ≡ Some i → follow all (to_instance up) (n ∷ []) ≡ member_of i.path i.up n i.body.parts to_nothing
+pub follow-one : (all : List Instance) (up : List (List ℕ)) (n : List ℕ) (i : Instance) → instance_at all up ≡ Some i → follow all (to_instance up) (n ∷ []) ≡ member_of i.path i.up n i.body.parts to_nothing
 follow-one all up n i e = ap (λ o. elim o as (λ _. Target) [ Some j ↦ member_of j.path j.up n j.body.parts to_nothing | None ↦ to_nothing ]) e
 
 -- an actual is a name, which stands for what it stands for around, or a body
