@@ -5,3 +5,4 @@ pub mod Settling
 pub mod FirstNames
 pub mod NamedDefinitions
 pub mod NamedOrNot
+pub mod Orders
