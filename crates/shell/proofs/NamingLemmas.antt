@@ -15,7 +15,7 @@ use Rattle.smv_tree.specs.declared.value.Value.{Value}
 use Rattle.smv_tree.specs.declared.value.Value.TheVariants.{Truth}
 use Rattle.smv_meaning.specs.Instances.{Instance, Variable, variables}
 use Rattle.smv_meaning.specs.Names.{Target, to_variable, to_body, to_instance, to_symbol, to_nothing, instance_at, declared, or_else, member_of, symbol_of, first_target, actual_target, follow, resolve, same_names, names_symbol}
-use Rattle.smv_meaning.specs.Values.{Naming, Moment, IsNaming, value_at, state_variables, input_variables, target_values}
+use Rattle.smv_meaning.specs.Values.{Naming, Snapshot, IsNaming, value_at, state_variables, input_variables, target_values}
 use Rattle.smv_meaning.specs.Runs.{at_state}
 use Rattle.shell.specs.Plain.{is_plain_part, is_declared, is_empty, names_of}
 use Rattle.shell.specs.Evaluation.{bool_at}
@@ -113,7 +113,7 @@ abbrev pub naming_of : Body → List Value → Naming
 naming_of b s up names = target_values (variables (b ∷ [])) (at_state s) (λ _ _. []) (resolve (b ∷ []) up names)
 
 -- the value of a name that stands for no expression does not look at other names
-name_alone : (vars : List Variable) (m : Moment) (now other : Naming) (t : Target) → IsName t → target_values vars m now t ≡ target_values vars m other t
+name_alone : (vars : List Variable) (m : Snapshot) (now other : Naming) (t : Target) → IsName t → target_values vars m now t ≡ target_values vars m other t
 name_alone vars m now other (to_variable path) h = refl
 name_alone vars m now other (to_body up e) h = absurd h
 name_alone vars m now other (to_instance up) h = refl

@@ -14,7 +14,7 @@ use Rattle.smv_tree.specs.declared.value.Value.{Value}
 use Rattle.smv_tree.specs.declared.value.Value.TheVariants.{Truth}
 use Rattle.smv_meaning.specs.Instances.{Instance, Variable}
 use Rattle.smv_meaning.specs.Values.{state_variables, input_variables}
-use Rattle.smv_meaning.specs.Runs.{AreLegal, AsksFirst, AsksEach, AsksStep, All_asked, IsFirst, IsAllowed, Keeps, IsStep, IsPath, at_state}
+use Rattle.smv_meaning.specs.Runs.{AreLegal, AsksFirst, AsksEach, AsksStep, AllAsked, IsFirst, IsAllowed, Keeps, IsStep, IsPath, at_state}
 use Rattle.shell.specs.declared.event.Cause.{Cause}
 use Rattle.shell.specs.declared.event.Cause.TheVariants.{Init, Trans}
 use Rattle.shell.specs.Plain.{is_plain_part, names_of}
@@ -127,7 +127,7 @@ all_each b s (part ∷ parts) k =
     (each_asked b s part p.0, all_each b s parts p.1)
 
 -- what is asked of the one instance is asked of all
-asked_of_main : (b : Body) → PlainFacts b → (asks : Instance → Part → Type 0) → AllByRecursion (asks (main_of b)) b.parts → All_asked asks (b ∷ [])
+asked_of_main : (b : Body) → PlainFacts b → (asks : Instance → Part → Type 0) → AllByRecursion (asks (main_of b)) b.parts → AllAsked asks (b ∷ [])
 asked_of_main b f asks h = subst (AllByRecursion (λ i. AllByRecursion (asks i) i.body.parts)) (sym (the_instances b f)) (h, tt)
 
 legal_named : (names : List (List ℕ)) (s : List Bool) → length s ≡ length names → AreLegal (map variable_named names) (map Truth s)

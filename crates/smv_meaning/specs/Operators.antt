@@ -4,7 +4,7 @@ use Rattle.std.specs.List.{list_any}
 use Rattle.std.specs.Ordering.{int_eq}
 use Rattle.std.specs.Int.{int_div_euclid}
 use Rattle.std.specs.Str.{bytes_eq}
-use Rattle.smv_tree.specs.Word.{Word, is_high, number_of}
+use Rattle.smv_tree.specs.Word.{Word, is_high, word_number}
 use Rattle.smv_tree.specs.declared.value.Value.{Value}
 use Rattle.smv_tree.specs.declared.value.Value.TheVariants.{Truth, Int, Sym, Word as Bits}
 use Rattle.smv_tree.specs.declared.expr.Op1.{Op1}
@@ -31,11 +31,11 @@ turned w bits = 2 ^ w.width - 1 - bits
 
 abbrev pub one_word : Op1 → Word → List Value
 one_word one.Not w = Bits (with_bits w (turned w w.bits)) ∷ []
-one_word one.Neg w = Bits (word_of w.signed w.width (neg_ℤ (number_of w))) ∷ []
+one_word one.Neg w = Bits (word_of w.signed w.width (neg_ℤ (word_number w))) ∷ []
 one_word one.Bool w = Truth (not (w.bits == 0)) ∷ []
 one_word one.Signed w = Bits (record { signed = true; width = w.width; bits = w.bits }) ∷ []
 one_word one.Unsigned w = Bits (record { signed = false; width = w.width; bits = w.bits }) ∷ []
-one_word one.ToInt w = Int (number_of w) ∷ []
+one_word one.ToInt w = Int (word_number w) ∷ []
 one_word one.Word1 w = []
 
 abbrev pub one_truth : Op1 → Bool → List Value
@@ -94,23 +94,23 @@ two_ints _ a b = []
 -- a shift by an amount that is not negative and at most the width; a signed word goes right with copies of its sign
 abbrev pub shifted : Op2 → Word → ℤ → List Value
 shifted two.Shl w (pos k) = if nat_le k w.width then Bits (with_bits w (w.bits * 2 ^ k % 2 ^ w.width)) ∷ [] else []
-shifted two.Shr w (pos k) = if nat_le k w.width then Bits (word_of w.signed w.width (int_div_euclid (number_of w) (pos (2 ^ k)))) ∷ [] else []
+shifted two.Shr w (pos k) = if nat_le k w.width then Bits (word_of w.signed w.width (int_div_euclid (word_number w) (pos (2 ^ k)))) ∷ [] else []
 shifted _ w _ = []
 
 -- arithmetic and order of two words go by their numbers, the rest by their bits
 abbrev pub two_words : Op2 → Word → Word → List Value
 two_words two.Concat a b = Bits (record { signed = false; width = a.width + b.width; bits = a.bits * 2 ^ b.width + b.bits }) ∷ []
-two_words two.Add a b = Bits (word_of a.signed a.width (number_of a +ℤ number_of b)) ∷ []
-two_words two.Sub a b = Bits (word_of a.signed a.width (number_of a -ℤ number_of b)) ∷ []
-two_words two.Mul a b = Bits (word_of a.signed a.width (number_of a *ℤ number_of b)) ∷ []
-two_words two.Div a b = unless_zero (number_of b) (Bits (word_of a.signed a.width (int_div (number_of a) (number_of b))) ∷ [])
-two_words two.Mod a b = unless_zero (number_of b) (Bits (word_of a.signed a.width (int_rem (number_of a) (number_of b))) ∷ [])
-two_words two.Shl a b = shifted two.Shl a (number_of b)
-two_words two.Shr a b = shifted two.Shr a (number_of b)
-two_words two.Lt a b = Truth (int_lt (number_of a) (number_of b)) ∷ []
-two_words two.Gt a b = Truth (int_lt (number_of b) (number_of a)) ∷ []
-two_words two.Le a b = Truth (not (int_lt (number_of b) (number_of a))) ∷ []
-two_words two.Ge a b = Truth (not (int_lt (number_of a) (number_of b))) ∷ []
+two_words two.Add a b = Bits (word_of a.signed a.width (word_number a +ℤ word_number b)) ∷ []
+two_words two.Sub a b = Bits (word_of a.signed a.width (word_number a -ℤ word_number b)) ∷ []
+two_words two.Mul a b = Bits (word_of a.signed a.width (word_number a *ℤ word_number b)) ∷ []
+two_words two.Div a b = unless_zero (word_number b) (Bits (word_of a.signed a.width (int_div (word_number a) (word_number b))) ∷ [])
+two_words two.Mod a b = unless_zero (word_number b) (Bits (word_of a.signed a.width (int_rem (word_number a) (word_number b))) ∷ [])
+two_words two.Shl a b = shifted two.Shl a (word_number b)
+two_words two.Shr a b = shifted two.Shr a (word_number b)
+two_words two.Lt a b = Truth (int_lt (word_number a) (word_number b)) ∷ []
+two_words two.Gt a b = Truth (int_lt (word_number b) (word_number a)) ∷ []
+two_words two.Le a b = Truth (not (int_lt (word_number b) (word_number a))) ∷ []
+two_words two.Ge a b = Truth (not (int_lt (word_number a) (word_number b))) ∷ []
 two_words two.And a b = Bits (with_bits a (bit_and a.bits b.bits)) ∷ []
 two_words two.Or a b = Bits (with_bits a (bit_or a.bits b.bits)) ∷ []
 two_words two.Xor a b = Bits (with_bits a (bit_xor a.bits b.bits)) ∷ []
@@ -147,14 +147,14 @@ selected high low _ = []
 -- n bits, and the sign bit kept where a signed word loses some
 abbrev pub resized : ℕ → Word → Word
 resized n w =
-    if nat_le w.width n then word_of w.signed n (number_of w)
+    if nat_le w.width n then word_of w.signed n (word_number w)
     else if w.signed then record { signed = true; width = n; bits = (if is_high w then 2 ^ (n - 1) else 0) + w.bits % 2 ^ (n - 1) }
     else record { signed = false; width = n; bits = w.bits % 2 ^ n }
 
 -- `resize` to n bits, or `extend` by n bits
 abbrev pub widened : Bool → ℕ → Value → List Value
 widened true n (Bits w) = Bits (resized n w) ∷ []
-widened false n (Bits w) = Bits (word_of w.signed (w.width + n) (number_of w)) ∷ []
+widened false n (Bits w) = Bits (word_of w.signed (w.width + n) (word_number w)) ∷ []
 widened resize n _ = []
 
 -- the integers from low on, so many

@@ -77,7 +77,7 @@ abbrev mutual
   first_values now later up (arm c a bs) = first_true (values now later up c) (values now later up a) (first_values now later up bs)
 
 -- one moment of a run: the values of the state and frozen variables, and those of the inputs, in their order
-pub record Moment : Type 0 where
+pub record Snapshot : Type 0 where
   pub state : List Value
   pub input : List Value
 
@@ -100,11 +100,11 @@ value_at (v ∷ vars) path (x ∷ xs) = if same_names v.path path then x ∷ [] 
 value_at _ path _ = []
 
 -- the value of a variable at a moment
-abbrev pub variable_values : List Variable → Moment → List (List ℕ) → List Value
+abbrev pub variable_values : List Variable → Snapshot → List (List ℕ) → List Value
 variable_values vars m path = value_at (state_variables vars) path m.state ++ value_at (input_variables vars) path m.input
 
 -- the values of what a path of names stands for
-abbrev pub target_values : List Variable → Moment → Naming → Target → List Value
+abbrev pub target_values : List Variable → Snapshot → Naming → Target → List Value
 target_values vars m now (to_variable path) = variable_values vars m path
 target_values vars m now (to_body up e) = values now now up e
 target_values vars m now (to_instance up) = []
@@ -112,5 +112,5 @@ target_values vars m now (to_symbol n) = Sym n ∷ []
 target_values vars m now to_nothing = []
 
 -- names have their values at a moment: a variable its value, a define the values of its body in its own instance, a parameter those of the actual in the instance around
-abbrev pub IsNaming : List Body → Moment → Naming → Type 0
+abbrev pub IsNaming : List Body → Snapshot → Naming → Type 0
 IsNaming program m now = (up names : List (List ℕ)) → now up names ≡ target_values (variables program) m now (resolve program up names)

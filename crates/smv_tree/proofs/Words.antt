@@ -4,7 +4,7 @@ use Rattle.std.proofs.Common.{arith, inl, inr}
 use Rattle.std.proofs.lemmas.Bool.Decides.{nat_tests}
 use Rattle.std.proofs.Math.Pow.{pow_mono}
 use Rattle.std.specs.Int.{is_negative}
-use Rattle.smv_tree.specs.Word.{Word, is_high, number_of}
+use Rattle.smv_tree.specs.Word.{Word, is_high, word_number}
 
 -- bits that fit 128 leave the highest of a wider word clear
 wide_is_low : (w : Word) → w.bits < 2 ^ 128 → w.bits < 2 ^ w.width → (w.width ≡ 0) ⊎ (128 < w.width) → is_high w ≡ false
@@ -12,7 +12,7 @@ wide_is_low w fits below (inl none) = grind (arith, nat_tests)
 wide_is_low w fits below (inr wide) = grind (arith, nat_tests, pow_mono {i = 129} {j = w.width} wide)
 
 -- so the number of the word is that of its bits
-pub wide_is_natural : (w : Word) → w.bits < 2 ^ 128 → w.bits < 2 ^ w.width → (w.width ≡ 0) ⊎ (128 < w.width) → number_of w ≡ pos w.bits
+pub wide_is_natural : (w : Word) → w.bits < 2 ^ 128 → w.bits < 2 ^ w.width → (w.width ≡ 0) ⊎ (128 < w.width) → word_number w ≡ pos w.bits
 wide_is_natural w fits below wide = grind (arith, nat_tests, wide_is_low w fits below wide)
 
 -- no natural number is below zero

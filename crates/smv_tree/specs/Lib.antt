@@ -1,3 +1,4 @@
 pub mod Word
 pub mod Trees
 pub mod Models
+pub mod Legal

@@ -11,5 +11,5 @@ abbrev pub is_high : Word → Bool
 is_high w = nat_le (2 ^ w.width) (2 * w.bits)
 
 -- the number that a word stands for
-abbrev pub number_of : Word → ℤ
-number_of w = if w.signed && is_high w then pos w.bits -ℤ pos (2 ^ w.width) else pos w.bits
+abbrev pub word_number : Word → ℤ
+word_number w = if w.signed && is_high w then pos w.bits -ℤ pos (2 ^ w.width) else pos w.bits

@@ -1,7 +1,7 @@
 ghost use Rattle.std.specs.Prelude.{◌≡◌, ◌⊎◌, ◌<◌, ◌*◌, ◌^◌, None, IfSome};
 ghost use Rattle.std.specs.Int.{is_negative};
 ghost use Rattle.std.specs.Prelude.{unsigned_abs};
-ghost use Rattle.smv_tree.specs.Word.{number_of};
+ghost use Rattle.smv_tree.specs.Word.{word_number};
 
 use crate::Name;
 use std::marker::Model;
@@ -79,8 +79,8 @@ fn highest_bit(width: u8) -> Option<u128>
 #[tactic(auto, using(crate::proofs::Words::wide_is_natural))]
 fn number(signed: bool, width: u8, bits: u128) -> (bool, u128)
     requires { bits < 2 ^ width }
-    ensures sign { result.0 ≡ is_negative (number_of (record { signed = signed; width = width; bits = bits })) }
-    ensures magnitude { result.1 ≡ unsigned_abs (number_of (record { signed = signed; width = width; bits = bits })) }
+    ensures sign { result.0 ≡ is_negative (word_number (record { signed = signed; width = width; bits = bits })) }
+    ensures magnitude { result.1 ≡ unsigned_abs (word_number (record { signed = signed; width = width; bits = bits })) }
 {
     match highest_bit(width) {
         Some(high) if signed && bits >= high => (true, high - (bits - high)),
@@ -91,8 +91,8 @@ fn number(signed: bool, width: u8, bits: u128) -> (bool, u128)
 
 /// The number that a word stands for: whether it is below zero, and its magnitude.
 pub fn word_value(w: &WordVal) -> (bool, u128)
-    ensures sign { result.0 ≡ is_negative (number_of w.now) }
-    ensures magnitude { result.1 ≡ unsigned_abs (number_of w.now) }
+    ensures sign { result.0 ≡ is_negative (word_number w.now) }
+    ensures magnitude { result.1 ≡ unsigned_abs (word_number w.now) }
 {
     number(w.signed, w.width, w.bits)
 }
