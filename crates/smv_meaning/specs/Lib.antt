@@ -3,3 +3,11 @@ pub mod Instances
 pub mod Names
 pub mod Values
 pub mod Runs
+pub mod Places
+pub mod LassoTruth
+pub mod SettledTruth
+pub mod Duals
+pub mod Sweeps
+pub mod Marks
+pub mod Counterexamples
+pub mod PartialTraces
