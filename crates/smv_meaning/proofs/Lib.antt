@@ -6,3 +6,9 @@ pub mod FirstNames
 pub mod NamedDefinitions
 pub mod NamedOrNot
 pub mod Orders
+pub mod Lassos
+pub mod Untils
+pub mod Truths
+pub mod SettledTruths
+pub mod Sweeping
+pub mod Partials

@@ -6,3 +6,11 @@ pub mod Runs
 pub mod Walks
 pub mod Definitions
 pub mod Cycles
+pub mod Places
+pub mod LassoTruth
+pub mod SettledTruth
+pub mod Duals
+pub mod Sweeps
+pub mod Marks
+pub mod Counterexamples
+pub mod PartialTraces
