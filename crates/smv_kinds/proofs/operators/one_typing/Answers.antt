@@ -1,0 +1,8 @@
+-- Each operator has a line.
+use Rattle.std.proofs.Common.{◌≡◌, true, false, ap, ◌∙◌}
+use Rattle.std.specs.Prelude.{is_some}
+use Rattle.smv_kinds.proofs.Lines.{one_has_line}
+use Rattle.smv_kinds.proofs.operators.one_typing.Goals as goal
+
+pub unreachable-requires : goal.unreachable-requires
+unreachable-requires c = let none : false ≡ true = ap is_some c.in-None.ensures ∙ one_has_line c.args.operator in cc

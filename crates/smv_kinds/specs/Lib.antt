@@ -1,0 +1,5 @@
+pub mod Intervals
+pub mod Sorts
+pub mod Results
+pub mod Operators
+pub mod Nodes
