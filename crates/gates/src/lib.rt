@@ -19,6 +19,3 @@ pub use lit::{Lit, lit_not};
 pub use lits::Lits;
 pub use node::Node;
 pub use truths::Truths;
-
-#[cfg(test)]
-mod tests;

@@ -22,6 +22,3 @@ pub use budget::Budget;
 pub use sbits::SBits;
 pub use solver::Solver;
 pub use verdict::Verdict;
-
-#[cfg(test)]
-mod tests;

@@ -20,6 +20,3 @@ pub use product::mul;
 pub use shift::{shl, shr};
 pub use sum::{add, neg, sub};
 pub use vector::{concat, extend, select};
-
-#[cfg(test)]
-mod tests;

@@ -1,7 +1,7 @@
 use Rattle.std.proofs.Common.{arith}
 use Rattle.std.proofs.lemmas.Grind.{common_steps}
 use Rattle.word_bits.proofs.Circuits.{circuits, belongs}
-use Rattle.word_bits.proofs.tests.inputs.Goals as goal
+use Rattle.solver_tests.proofs.circuits.inputs.Goals as goal
 
 pub loop-preserved : goal.loop-preserved
 loop-preserved c = record {

@@ -1,6 +1,6 @@
 ghost use Rattle.std.specs.Prelude.{◌≡◌, ◌≤◌, ◌^◌, ◌<◌, IfOk};
 
-use super::*;
+use sat_core::{Budget, Solver, Verdict};
 use sat_log::{LineKind, SLit, SLits};
 use std::alloc::{AllocError, Global};
 use std::process::Abort;

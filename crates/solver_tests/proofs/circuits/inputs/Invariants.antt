@@ -1,6 +1,6 @@
 use Rattle.std.proofs.Common.{◌≡◌, length}
 use Rattle.gates.specs.Nodes.{Grows, AllBelong}
-use Rattle.word_bits.proofs.tests.inputs.Given as goal
+use Rattle.solver_tests.proofs.circuits.inputs.Given as goal
 
 -- as many inputs as there were rounds
 abbrev pub invariant-loop : goal.invariant-loop

@@ -1,4 +1,4 @@
-use super::*;
+use gates::{Bits, Gates, Lit, Truths, lit_not};
 use std::alloc::{AllocError, Global};
 use std::process::Abort;
 use std::test::Fail;
@@ -43,7 +43,7 @@ fn exclusive(rt: &impl Abort, alloc: Global, x: bool, y: bool) -> Result<(), All
     let both = g.and(a, b)?;
     let neither = g.and(lit_not(a), lit_not(b))?;
     let differ = g.and(lit_not(both), lit_not(neither))?;
-    let inputs = Truths::from_vec(vec![in alloc; false, x, y, false, false, false]?);
+    let inputs = Truths::from_vec(vec![in alloc; false, x, y, false, false, false]?).copy(alloc)?;
     assert!(rt; inputs.len() as u64 == g.nodes());
     let bits = Bits::of(alloc, &g, &inputs)?.copy(alloc)?;
     assert!(rt; bits.as_slice().len() as u64 == g.nodes());

@@ -1,11 +1,11 @@
 ghost use Rattle.std.specs.Prelude.{◌≡◌, ◌<◌, ◌≤◌, length, IfOk};
 ghost use Rattle.gates.specs.Nodes.{Grows, AllBelong};
 
-use super::*;
 use gates::{Bits, Gates, Lit, Lits, Truths};
 use std::alloc::{AllocError, Global};
 use std::process::Abort;
 use std::test::Fail;
+use word_bits::{add, concat, eq, extend, mul, mux, neg, sdiv_rem, select, shl, shr, slt, sub, udiv_rem, ult};
 
 /// A circuit over two vectors of equal width.
 #[derive(Clone, Copy)]
@@ -32,7 +32,7 @@ enum Call {
 }
 
 /// A vector of new inputs.
-#[tactic(auto, using(crate::proofs::Circuits::circuits, crate::proofs::Circuits::belongs))]
+#[tactic(auto, using(word_bits::proofs::Circuits::circuits, word_bits::proofs::Circuits::belongs))]
 fn inputs(alloc: Global, g: &mut Gates, width: usize) -> Result<Lits, AllocError>
     ensures width { IfOk result (λ r. length r ≡ width) }
     ensures belongs { IfOk result (AllBelong g.new) }
@@ -48,7 +48,7 @@ fn inputs(alloc: Global, g: &mut Gates, width: usize) -> Result<Lits, AllocError
 
 /// A vector of one literal.
 fn single(alloc: Global, bit: Lit) -> Result<Lits, AllocError> {
-    vector::repeated(alloc, bit, 1)
+    Ok(Lits::from_vec(vec![in alloc; bit]?))
 }
 
 /// The circuit of a call.
