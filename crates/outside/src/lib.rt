@@ -7,11 +7,13 @@
 //! only where the object's own count of faults rose. Each call that writes has one clause, `Writes`.
 //! Objects in memory meet the traits for tests.
 
+mod calls;
 mod files;
 mod memory;
 mod number;
 mod order;
 mod sink;
+mod sound;
 mod source;
 #[cfg(test)]
 mod tests;
@@ -21,6 +23,7 @@ pub use files::{FileFault, Files};
 pub use memory::{MemFiles, MemSink, MemSource};
 pub use number::{is_digit, put_integer, put_number, put_numbered, read_number};
 pub use sink::{Sink, put_all, put_parts};
+pub use sound::{NullSink, SoundFiles, SoundSource};
 pub use source::{Line, LineFault, Source, read_line};
 pub use text::{Text, Words};
 

@@ -1,62 +1,28 @@
-ghost use Rattle.std.specs.Prelude.{◌≡◌, ◌-◌, [], ◌∷◌, Some, None, IfOk, OnOk, OnErr, MatchOption};
-ghost use Rattle.outside.specs.Told.{HasRisen};
-ghost use Rattle.outside.specs.Memory.{stored};
+//! Objects in memory, of which the calls that are wanted fail.
 
-use crate::{Failed, FileFault, Files, Sink, Source, Text};
+ghost use Rattle.std.specs.Prelude.{◌≡◌, ◌-◌, ◌∷◌, ◌||◌, ◌↔◌, [], Err, IfOk, IsTrue, OnErr, OnOk, is_err, length, min};
+ghost use Rattle.outside.specs.Disk.{ReadsFile, WritesFile};
+ghost use Rattle.outside.specs.Memory.{counted, fails_next, is_full, told_files, told_input, told_output};
+ghost use Rattle.outside.specs.Told.{Fills, Takes};
+
+use crate::calls::Calls;
+use crate::{Failed, FileFault, Files, Sink, SoundFiles, SoundSource, Source, Text};
 use std::alloc::{AllocError, Global};
 use std::marker::Model;
-
-/// The calls of an object in memory: how many there were, which are to fail, counted from 1, and
-/// how many did.
-#[derive(Debug, Drop)]
-struct Calls {
-    made: u64,
-    failing: Vec<u64>,
-    faults: u64,
-}
-
-impl Calls {
-    fn new(alloc: Global, failing: &[u64]) -> Result<Calls, AllocError>
-        ensures { IfOk result (λ calls. calls.faults ≡ 0) }
-    {
-        Ok(Calls {
-            made: 0,
-            failing: Vec::from_slice(alloc, failing)?,
-            faults: 0,
-        })
-    }
-
-    /// Counts a call, and fails it if it is one of those that are to fail.
-    fn make(&mut self) -> Result<(), Failed>
-        ensures cause { OnErr result (HasRisen self.old.faults self.new.faults) }
-        ensures same { OnOk result (self.new.faults ≡ self.old.faults) }
-    {
-        self.made = self.made.saturating_add(1);
-        if self.failing.contains(&self.made) {
-            self.faults = self.faults.saturating_add(1);
-            return Err(Failed);
-        }
-        Ok(())
-    }
-}
 
 /// An input in memory.
 #[derive(Debug, Drop)]
 pub struct MemSource {
-    bytes: Vec<u8>,
-    at: usize,
+    bytes: SoundSource,
     calls: Calls,
 }
 
 impl Model for MemSource {
-    ghost use Rattle.std.specs.Prelude.{◌≤◌, drop, vec_len};
     ghost use Rattle.outside.specs.Memory.{HeldInput};
 
     ghost Value = { HeldInput };
 
-    ghost view = { λ s. record { left = drop s.at s.bytes.items; faults = s.calls.faults } };
-
-    ghost invariant = { λ s. s.at ≤ vec_len s.bytes };
+    ghost view = { λ s. record { left = s.bytes; calls = s.calls } };
 }
 
 impl MemSource {
@@ -66,30 +32,27 @@ impl MemSource {
     ///
     /// `AllocError` where memory is refused.
     pub fn new(alloc: Global, bytes: &[u8], fails: &[u64]) -> Result<MemSource, AllocError>
-        ensures { IfOk result (λ s. s ≡ record { left = bytes.now; faults = 0 }) }
+        ensures { IfOk result (λ s. s
+            ≡ record { left = bytes.now; calls = record { made = 0; failing = fails.now; faults = 0 } }) }
     {
         Ok(MemSource {
-            bytes: Vec::from_slice(alloc, bytes)?,
-            at: 0,
+            bytes: SoundSource::new(alloc, bytes)?,
             calls: Calls::new(alloc, fails)?,
         })
     }
 }
 
 impl Source for MemSource {
-    ghost use Rattle.std.specs.Prelude.{Some};
+    ghost told = { told_input };
 
-    ghost told = { λ s. record { left = Some s.left; faults = s.faults } };
-
-    #[tactic(auto, using(crate::proofs::MemoryLemmas::given_back))]
-    fn read(&mut self, buf: &mut [u8]) -> Result<usize, Failed> {
+    fn read(&mut self, buf: &mut [u8]) -> Result<usize, Failed>
+        ensures fills { Fills buf.old buf.new (told_input self.old) result (told_input self.new) }
+        ensures fails { is_err result ≡ fails_next self.old.calls }
+        ensures calls { self.new.calls ≡ counted (is_err result) self.old.calls }
+        ensures most { IfOk result (λ n. n ≡ min (length buf.old) (length self.old.left)) }
+    {
         self.calls.make()?;
-        let count = buf.len().min(self.bytes.len() - self.at);
-        let (_, left) = self.bytes.split_at(self.at);
-        let (given, _) = left.split_at(count);
-        buf[..count].copy_from_slice(given);
-        self.at += count;
-        Ok(count)
+        Ok(self.bytes.give(buf))
     }
 }
 
@@ -102,12 +65,12 @@ pub struct MemSink {
 }
 
 impl Model for MemSink {
-    ghost use Rattle.std.specs.Prelude.{◌≤◌, ◌+◌, vec_len, vec_capacity};
+    ghost use Rattle.std.specs.Prelude.{◌+◌, ◌≤◌, vec_capacity, vec_len};
     ghost use Rattle.outside.specs.Memory.{HeldOutput};
 
     ghost Value = { HeldOutput };
 
-    ghost view = { λ s. record { written = s.bytes.items; room = s.room; faults = s.calls.faults } };
+    ghost view = { λ s. record { written = s.bytes.items; room = s.room; calls = s.calls } };
 
     ghost invariant = { λ s. vec_len s.bytes + s.room ≤ vec_capacity s.bytes };
 }
@@ -120,7 +83,11 @@ impl MemSink {
     ///
     /// `AllocError` where memory is refused.
     pub fn new(alloc: Global, capacity: usize, fails: &[u64]) -> Result<MemSink, AllocError>
-        ensures { IfOk result (λ s. s ≡ record { written = []; room = capacity; faults = 0 }) }
+        ensures { IfOk result (λ s. s ≡ record {
+          written = [];
+          room = capacity;
+          calls = record { made = 0; failing = fails.now; faults = 0 };
+        }) }
     {
         Ok(MemSink {
             bytes: Vec::with_capacity(alloc, capacity)?,
@@ -138,14 +105,19 @@ impl MemSink {
 }
 
 impl Sink for MemSink {
-    ghost use Rattle.std.specs.Prelude.{Some};
+    ghost told = { told_output };
 
-    ghost told = { λ s. record { written = Some s.written; faults = s.faults } };
-
-    fn write(&mut self, bytes: &[u8]) -> Result<usize, Failed> {
+    fn write(&mut self, bytes: &[u8]) -> Result<usize, Failed>
+        ensures takes { Takes bytes.now (told_output self.old) result (told_output self.new) }
+        ensures fails { is_err result ≡ (fails_next self.old.calls || is_full self.old bytes.now) }
+        ensures calls { self.new.calls ≡ counted (is_err result) self.old.calls }
+        ensures most { IfOk result (λ n. n ≡ min (length bytes.now) self.old.room) }
+        ensures room { IfOk result (λ n. self.new.room ≡ self.old.room - n) }
+        ensures kept { OnErr result (self.new.room ≡ self.old.room) }
+    {
         self.calls.make()?;
         if self.room == 0 && !bytes.is_empty() {
-            self.calls.faults = self.calls.faults.saturating_add(1);
+            self.calls.fail();
             return Err(Failed);
         }
         let count = bytes.len().min(self.room);
@@ -158,8 +130,7 @@ impl Sink for MemSink {
 /// Files in memory.
 #[derive(Debug, Drop)]
 pub struct MemFiles {
-    /// Names and bytes. The first file of a name counts.
-    files: Vec<(Text, Text)>,
+    files: SoundFiles,
     calls: Calls,
 }
 
@@ -168,20 +139,7 @@ impl Model for MemFiles {
 
     ghost Value = { HeldFiles };
 
-    ghost view = { λ s. record { files = s.files.items; faults = s.calls.faults } };
-}
-
-/// The bytes of the first file of this name.
-#[tactic(auto, using(crate::proofs::MemoryLemmas::stored_step))]
-fn find<'a>(files: &'a [(Text, Text)], name: &[u8]) -> Option<&'a Text>
-    ensures { MatchOption result (stored files.now name.now ≡ None) (λ bytes. stored files.now name.now ≡ Some bytes.now) }
-{
-    for (held, bytes) in files {
-        if held.as_slice() == name {
-            return Some(bytes);
-        }
-    }
-    None
+    ghost view = { λ s. record { files = s.files; calls = s.calls } };
 }
 
 impl MemFiles {
@@ -191,10 +149,11 @@ impl MemFiles {
     ///
     /// `AllocError` where memory is refused.
     pub fn new(alloc: Global, fails: &[u64]) -> Result<MemFiles, AllocError>
-        ensures { IfOk result (λ s. s ≡ record { files = []; faults = 0 }) }
+        ensures { IfOk result (λ s. s
+            ≡ record { files = []; calls = record { made = 0; failing = fails.now; faults = 0 } }) }
     {
         Ok(MemFiles {
-            files: Vec::new(alloc),
+            files: SoundFiles::new(alloc)?,
             calls: Calls::new(alloc, fails)?,
         })
     }
@@ -205,39 +164,36 @@ impl MemFiles {
     ///
     /// `AllocError` where memory is refused; the files stay as they were.
     pub fn put(&mut self, name: &Text, bytes: &[u8]) -> Result<(), AllocError>
-        ensures ok { OnOk result (self.new ≡ record { files = (name.now, bytes.now) ∷ self.old.files; faults = self.old.faults }) }
+        ensures ok { OnOk result (self.new ≡ record self.old { files = (name.now, bytes.now) ∷ self.old.files }) }
         ensures err { OnErr result (self.new ≡ self.old) }
     {
-        let alloc = *self.files.allocator();
-        let file = (name.copy(alloc)?, Text::from_slice(alloc, bytes)?);
-        self.files.insert(0, file)?;
-        Ok(())
+        self.files.put(name, bytes)
     }
 }
 
 impl Files for MemFiles {
-    ghost use Rattle.std.specs.Prelude.{Some};
-    ghost use Rattle.outside.specs.Memory.{stored};
+    ghost told = { told_files };
 
-    ghost told = { λ s. record { held = Some (stored s.files); faults = s.faults } };
-
-    fn read_all(&mut self, alloc: Global, name: &Text, limit: usize) -> Result<Text, FileFault> {
+    fn read_all(&mut self, alloc: Global, name: &Text, limit: usize) -> Result<Text, FileFault>
+        ensures reads { ReadsFile limit name.now (told_files self.old) result (told_files self.new) }
+        ensures same { self.new.files ≡ self.old.files }
+        ensures fails { IsTrue (fails_next self.old.calls) ↔ (result ≡ Err FileFault.Failed) }
+        ensures calls { self.new.calls ≡ counted (fails_next self.old.calls) self.old.calls }
+    {
         let Ok(()) = self.calls.make() else {
             return Err(FileFault::Failed);
         };
-        let Some(bytes) = find(self.files.as_slice(), name.as_slice()) else {
-            return Err(FileFault::NotThere);
-        };
-        if bytes.len() > limit {
-            return Err(FileFault::TooLong(limit as u64 + 1));
-        }
-        bytes.copy(alloc).map_err(FileFault::NoMemory)
+        self.files.get(alloc, name, limit)
     }
 
-    fn write_all(&mut self, _alloc: Global, name: &Text, bytes: &[u8]) -> Result<(), FileFault> {
+    fn write_all(&mut self, _alloc: Global, name: &Text, bytes: &[u8]) -> Result<(), FileFault>
+        ensures writes { WritesFile name.now bytes.now (told_files self.old) result (told_files self.new) }
+        ensures fails { IsTrue (fails_next self.old.calls) ↔ (result ≡ Err FileFault.Failed) }
+        ensures calls { self.new.calls ≡ counted (fails_next self.old.calls) self.old.calls }
+    {
         let Ok(()) = self.calls.make() else {
             return Err(FileFault::Failed);
         };
-        self.put(name, bytes).map_err(FileFault::NoMemory)
+        self.files.put(name, bytes).map_err(FileFault::NoMemory)
     }
 }

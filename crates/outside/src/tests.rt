@@ -1,21 +1,15 @@
 use crate::{
-    Failed, FileFault, Files, Line, LineFault, MemFiles, MemSink, MemSource, Text, put_parts,
-    read_line,
+    Failed, FileFault, Files, Line, LineFault, MemFiles, MemSink, MemSource, NullSink, SoundFiles,
+    SoundSource, Source, Text, put_integer, put_number, put_parts, read_line,
 };
 use std::alloc::{AllocError, Global};
 
 /// What three reads of a line find: each line with a semicolon, `E` for the end, `R` for a read
 /// fault, `T` for a line that is too long.
-fn three_lines(
-    alloc: Global,
-    bytes: &[u8],
-    limit: usize,
-    failing: u64,
-) -> Result<Text, AllocError> {
-    let mut source = MemSource::new(alloc, bytes, &[failing])?;
+fn three_lines<S: Source>(alloc: Global, source: &mut S, limit: usize) -> Result<Text, AllocError> {
     let mut found = Text::new(alloc);
     for _ in 0..3 {
-        let letter = match read_line(alloc, &mut source, limit) {
+        let letter = match read_line(alloc, source, limit) {
             Ok(Line::Line(line)) => {
                 found.extend(line.as_slice())?;
                 b';'
@@ -45,7 +39,8 @@ fn finds_lines(rt: HostRuntime) -> Result<(), AllocError> {
         ("", 4, 1, "REE"),
     ];
     for (bytes, limit, failing, want) in rows {
-        let found = three_lines(rt.alloc(), bytes.as_bytes(), limit, failing)?;
+        let mut source = MemSource::new(rt.alloc(), bytes.as_bytes(), &[failing])?;
+        let found = three_lines(rt.alloc(), &mut source, limit)?;
         assert!(rt; found.as_slice() == want.as_bytes(), "{bytes:?}");
     }
     Ok(())
@@ -71,9 +66,9 @@ fn writes_what_fits(rt: HostRuntime) -> Result<(), AllocError> {
 }
 
 /// What a file holds, or a word for why it was not read.
-fn content(
+fn content<F: Files>(
     alloc: Global,
-    files: &mut MemFiles,
+    files: &mut F,
     name: &Text,
     limit: usize,
 ) -> Result<Text, AllocError> {
@@ -106,5 +101,34 @@ fn keeps_files(rt: HostRuntime) -> Result<(), AllocError> {
         let found = content(alloc, &mut files, which, limit)?;
         assert!(rt; found.as_slice() == want.as_bytes(), "{want}");
     }
+    Ok(())
+}
+
+#[test]
+fn sound_objects_never_fail(rt: HostRuntime) -> Result<(), AllocError> {
+    let alloc = rt.alloc();
+    let mut source = SoundSource::new(alloc, "ab\nc".as_bytes())?;
+    let found = three_lines(alloc, &mut source, 4)?;
+    assert!(rt; found.as_slice() == "ab;c;E".as_bytes());
+    let mut files = SoundFiles::new(alloc)?;
+    let name = Text::from_slice(alloc, "a".as_bytes())?;
+    assert!(rt; matches!(files.write_all(alloc, &name, "two".as_bytes()), Ok(())));
+    let found = content(alloc, &mut files, &name, 3)?;
+    assert!(rt; found.as_slice() == "two".as_bytes());
+    assert!(rt; put_number(&mut NullSink, 7) == Ok(()));
+    Ok(())
+}
+
+#[test]
+fn writes_numbers_and_faults(rt: HostRuntime) -> Result<(), AllocError> {
+    let mut sink = MemSink::new(rt.alloc(), 99, &[])?;
+    let largest = put_number(&mut sink, u64::MAX);
+    let least = put_integer(&mut sink, &i64::MIN);
+    let fault = LineFault::TooLong;
+    let number = put_number(&mut sink, u64::from(fault.number()));
+    let text = fault.print_text(&mut sink);
+    assert!(rt; largest.is_ok() && least.is_ok() && number.is_ok() && text.is_ok());
+    let want = "18446744073709551615-9223372036854775808802line longer than 65536 bytes";
+    assert!(rt; sink.bytes() == want.as_bytes());
     Ok(())
 }
