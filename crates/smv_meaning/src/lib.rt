@@ -6,9 +6,11 @@
 //! is repeated in them. The functions of this crate have no code: their contracts are laws of the
 //! definitions.
 
+mod cycles;
 mod laws;
 mod one_naming;
 
+pub use cycles::{ordered_definitions_settle, settled_program_has_no_cycle};
 pub use laws::{
     constant_is_its_value, front_of_run_is_run, members_keep_their_order, next_is_one_step,
 };
