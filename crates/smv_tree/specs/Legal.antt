@@ -1,16 +1,10 @@
 -- The values that a type lists.
-use Rattle.std.specs.Prelude.{◌≡◌, ◌<◌, ◌^◌, ◌≤ℤ◌, ℕ, Bool, Contains, ⊤}
+use Rattle.std.specs.Prelude.{◌≤ℤ◌, Contains, ⊤}
 use Rattle.smv_tree.specs.declared.value.Value.{Value}
 use Rattle.smv_tree.specs.declared.value.Value.TheVariants.{Truth, Int, Sym, Word as Bits}
 use Rattle.smv_tree.specs.declared.value.Ty.{Ty}
 use Rattle.smv_tree.specs.declared.value.Ty.TheVariants as type
-use Rattle.smv_tree.specs.Word.{Word}
-
--- a word of this sign and width, with no bit beyond the width
-pub record IsWordOf (signed : Bool) (width : ℕ) (w : Word) : Type 0 where
-  pub same_sign : w.signed ≡ signed
-  pub same_width : w.width ≡ width
-  pub fits : w.bits < 2 ^ width
+use Rattle.smv_tree.specs.Word.{IsWordOf}
 
 -- the type lists the value
 abbrev pub IsLegal : Ty → Value → Type 0

@@ -7,6 +7,7 @@
 
 mod expr;
 mod formula;
+mod legality;
 mod name;
 mod place;
 mod program;
@@ -14,9 +15,11 @@ mod value;
 
 pub use expr::{Branch, Branches, Expr, Exprs, Op1, Op2};
 pub use formula::{FormOp, Formula};
+pub use legality::legal;
 pub use name::{Name, Path};
 pub use place::Place;
 pub use program::{
     Item, Items, Kind, Module, Modules, Moment, Param, Params, Program, Section, TypeSyntax,
+    find_module,
 };
 pub use value::{Ty, Value, Values, WordVal, word_value};

@@ -1,3 +1,7 @@
+ghost use Rattle.std.specs.Prelude.{◌≡◌, position};
+ghost use Rattle.std.specs.Str.{bytes_eq};
+ghost use Rattle.smv_tree.specs.Models.{bodies};
+
 use crate::{Expr, Exprs, Formula, Name, Place, Ty};
 
 /// A model as it is written: its modules in the order of the text.
@@ -73,3 +77,19 @@ pub enum Item {
 
 /// The items of a module in the order of the text.
 pub type Items = Vec<Item>;
+
+/// The number of the first module of this name, from 0, by the modules as they are.
+fn first_named(p: &Program, name: &Name) -> Option<usize>
+    ensures { result ≡ position (λ m. bytes_eq m.name name.now) p.now.modules.items }
+{
+    p.modules
+        .iter()
+        .position(|m| m.name.as_slice() == name.as_slice())
+}
+
+/// The number of the first module of this name, from 0.
+pub fn find_module(p: &Program, name: &Name) -> Option<usize>
+    ensures { result ≡ position (λ b. bytes_eq b.name name.now) (bodies p.now) }
+{
+    first_named(p, name)
+}

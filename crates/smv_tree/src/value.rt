@@ -1,10 +1,22 @@
-ghost use Rattle.std.specs.Prelude.{◌≡◌, ◌⊎◌, ◌<◌, ◌*◌, ◌^◌, None, IfSome};
+ghost use Rattle.std.specs.Prelude.{◌≡◌, ◌↔◌, ◌⊎◌, ◌<◌, ◌*◌, ◌^◌, None, IfSome, IsSome, IsTrue};
 ghost use Rattle.std.specs.Int.{is_negative};
 ghost use Rattle.std.specs.Prelude.{unsigned_abs};
-ghost use Rattle.smv_tree.specs.Word.{word_number};
+ghost use Rattle.smv_tree.specs.Word.{word_number, IsWordOf};
 
 use crate::Name;
 use std::marker::Model;
+
+/// Whether the bits are below two to the width.
+#[tactic(auto, using(crate::proofs::Words::fits_shifted, crate::proofs::Words::shifted_fits))]
+fn fits(width: u8, bits: u128) -> bool
+    ensures { IsTrue result ↔ (bits < 2 ^ width) }
+{
+    if width < 128 {
+        bits >> width == 0
+    } else {
+        true
+    }
+}
 
 /// A word: its bits as a natural number, at a width of up to 255 bits, read as signed or not.
 #[derive(Clone, Copy, Debug, PartialEq, Eq)]
@@ -38,6 +50,25 @@ impl WordVal {
             width,
             bits,
         }
+    }
+
+    /// The word of these bits, if they are below two to the width.
+    pub fn from_bits(signed: bool, width: u8, bits: u128) -> Option<WordVal>
+        ensures word { IfSome result (λ w. w ≡ record { signed = signed; width = width; bits = bits }) }
+        ensures fits { IsSome result ↔ (bits < 2 ^ width) }
+    {
+        if fits(width, bits) {
+            Some(WordVal::new(signed, width, bits))
+        } else {
+            None
+        }
+    }
+
+    /// Whether the word has this sign and width.
+    pub fn is_of(self, signed: bool, width: u8) -> bool
+        ensures { IsTrue result ↔ IsWordOf signed width self }
+    {
+        self.signed == signed && self.width == width
     }
 
     /// Whether the word is read as signed.
