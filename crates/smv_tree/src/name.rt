@@ -1,6 +1,6 @@
-ghost use Rattle.std.specs.Prelude.{◌≡◌, ◌≤◌, length};
+ghost use Rattle.std.specs.Prelude.{◌≡◌, ◌≤◌, length, IfOk};
 
-use std::alloc::Global;
+use std::alloc::{AllocError, Global};
 use std::marker::Model;
 
 /// A name of the language: 1 to 255 bytes.
@@ -35,6 +35,25 @@ impl Name {
     {
         self.bytes.as_slice()
     }
+
+    /// Another name of the same bytes.
+    pub fn copy(&self, alloc: Global) -> Result<Name, AllocError>
+        ensures { IfOk result (λ n. n ≡ self.now) }
+    {
+        let bytes = Vec::from_slice(alloc, self.bytes.as_slice())?;
+        Ok(Name { bytes })
+    }
+}
+
+/// Other names of the same bytes.
+fn copies(alloc: Global, names: &[Name]) -> Result<Vec<Name>, AllocError>
+    ensures { IfOk result (λ v. v.items ≡ names.now) }
+{
+    let mut all = Vec::new(alloc);
+    for name in names {
+        all.push(name.copy(alloc)?)?;
+    }
+    Ok(all)
 }
 
 /// Names after dots: a variable within nested instances, the innermost last.
@@ -64,5 +83,13 @@ impl Path {
         ensures { result.now ≡ self.now }
     {
         self.names.as_slice()
+    }
+
+    /// Another path of the same names.
+    pub fn copy(&self, alloc: Global) -> Result<Path, AllocError>
+        ensures { IfOk result (λ p. p ≡ self.now) }
+    {
+        let names = copies(alloc, self.names.as_slice())?;
+        Ok(Path { names })
     }
 }
