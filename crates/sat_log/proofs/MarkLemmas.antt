@@ -1,5 +1,5 @@
 -- The table of literals that are set: its places, a write, and a clearing.
-use Rattle.std.proofs.Common.{◌≡◌, ◌≢◌, ℕ, suc, ◌+◌, ◌*◌, ◌<◌, ◌≤◌, Bool, true, false, cond, not, eqb, ltb, ◌||◌, ◌⊎◌, inl, inr, List, [], ◌∷◌, ◌++◌, length, get_or, set, take, refl, ap, sym, ◌∙◌, subst, get_or-set_same, get_or-set_other, length-set, arith, rules, tests}
+use Rattle.std.proofs.Common.{◌≡◌, ◌≢◌, ℕ, suc, ◌+◌, ◌*◌, ◌<◌, ◌≤◌, Bool, true, false, cond, not, eqb, ltb, ◌||◌, ◌⊎◌, inl, inr, List, [], ◌∷◌, ◌++◌, length, get_or, set, take, refl, ap, sym, ◌∙◌, subst, get_or-set_same, get_or-set_other, length-set, arith}
 use Rattle.std.specs.Prelude.{count_by, Some, None}
 use Rattle.std.specs.List.{AllByRecursion, list_any, position, position_or_len}
 use Rattle.std.proofs.lemmas.List.Sums.{sum_by-set, count_by-le-length, prefix_len-le-length, passes_at_first}
@@ -10,7 +10,7 @@ use Rattle.indexmap.specs.IndexSet.{insert_key}
 use Rattle.sat_log.specs.Literal.{Literal, packed}
 use Rattle.sat_log.specs.Marked.{Marked, is_numbered, place, places, HasPlace, HasRoomFor, KeepsRoom, placed, is_placed, Agrees, IsClear}
 use Rattle.sat_log.specs.Checking.{IsUpTo}
-use Rattle.sat_log.proofs.ListLemmas.{All-append, All-front, All-back}
+use Rattle.sat_log.proofs.ListLemmas.{All-append}
 use Rattle.sat_log.proofs.LiteralLemmas.{literal_by_parts, packed_injective}
 
 -- Places of variables.

@@ -1,4 +1,4 @@
-use Rattle.std.proofs.Common.{◌≡◌, ap, sym, subst, ◌∙◌, take}
+use Rattle.std.proofs.Common.{◌≡◌, sym, subst, take}
 use Rattle.sat_log.specs.Checking.{last_variable}
 use Rattle.sat_log.proofs.LogLemmas.{keeps_front}
 use Rattle.sat_log.proofs.log.Log.take_back.Goals as goal
