@@ -36,15 +36,8 @@ log-added log (c ∷ cs) h proper literals =
     let next : IsLog (log ++ original c ∷ []) = log_push log (original c) h (literals.0, record { nonempty = proper.0.0; distinct = proper.0.1; unhinted = refl }) in
     subst IsLog (append_assoc log (original c ∷ []) (map original cs)) (log-added (log ++ original c ∷ []) cs next proper.1 literals.1)
 
-all_original : (cs : List (List Literal)) → AllByRecursion (λ line. line.kind ≡ Original) (map original cs)
-all_original [] = tt
-all_original (c ∷ cs) = (refl, all_original cs)
-
 pub AddsOriginals-refl : (log : List LogLine) → AddsOriginals log log
 AddsOriginals-refl log = record { added = []; longer = sym (append-nil log); all_originals = tt }
-
-pub AddsOriginals-added : (log new : List LogLine) (cs : List (List Literal)) → new ≡ log ++ map original cs → AddsOriginals log new
-AddsOriginals-added log new cs e = record { added = map original cs; longer = e; all_originals = all_original cs }
 
 pub AddsOriginals-trans : (a b c : List LogLine) → AddsOriginals a b → AddsOriginals b c → AddsOriginals a c
 AddsOriginals-trans a b c first second = record {

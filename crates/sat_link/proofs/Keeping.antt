@@ -41,15 +41,6 @@ node_proper n (And a b) h =
     let apart : b.node + 1 ≢ a.node + 1 = (λ e. absurd (omega (arith, e, h.1))) in
     (((λ e. absurd cc), ((first, tt), (tt, tt))), (((λ e. absurd cc), ((second, tt), (tt, tt))), (((λ e. absurd cc), ((first, (second, tt)), ((apart, tt), (tt, tt)))), tt)))
 
-pub node_up_to : (n m : ℕ) (y : Node) → StandsAt n y → n < m → AllByRecursion (IsUpTo m) (clauses_of n y)
-node_up_to n m True h below = ((omega (arith, below), tt), tt)
-node_up_to n m Input h below = tt
-node_up_to n m (And a b) h below =
-    let this : n + 1 ≤ m = omega (arith, below) in
-    let first : a.node + 1 ≤ m = omega (arith, below, h.1, h.2) in
-    let second : b.node + 1 ≤ m = omega (arith, below, h.2) in
-    ((this, (first, tt)), ((this, (second, tt)), ((this, (first, (second, tt))), tt)))
-
 node_literals : (n : ℕ) (y : Node) → StandsAt n y → n + 1 < 2 ^ 63 → AllByRecursion AreLiterals (clauses_of n y)
 node_literals n True h fits = (((omega arith, fits), tt), tt)
 node_literals n Input h fits = tt
@@ -78,12 +69,3 @@ keeps_defined nodes new y old solver k stands fits e exists added =
       clauses = ap originals added ∙ originals-added old.log cs ∙ ap (λ ds. ds ++ cs) k.clauses ∙ sym (definitions-push nodes y);
     }
     )
-
--- the log is as it was
-pub keeps_same : (nodes : List Node) (old solver : SolverContents) → KeepsClauses nodes old → length nodes ≤ solver.variables → solver.log ≡ old.log → KeepsClauses nodes solver
-keeps_same nodes old solver k variables same = record {
-  placed = k.placed;
-  variables = variables;
-  is_log = subst IsLog (sym same) k.is_log;
-  clauses = ap originals same ∙ k.clauses;
-}

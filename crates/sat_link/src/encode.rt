@@ -68,7 +68,12 @@ fn add_variable(solver: &mut Solver, n: u64) -> Result<(), AllocError>
 }
 
 /// Adds the clauses of node `n`: all of them, or none.
-pub(crate) fn define(alloc: Global, solver: &mut Solver, n: u64, node: &Node) -> Result<(), AllocError>
+pub(crate) fn define(
+    alloc: Global,
+    solver: &mut Solver,
+    n: u64,
+    node: &Node,
+) -> Result<(), AllocError>
     requires stands { StandsAt n node.now }
     requires fits { n + 1 < 2 ^ 63 }
     requires next { n ≤ solver.old.variables }

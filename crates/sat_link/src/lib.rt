@@ -15,4 +15,3 @@ pub use counts::Counts;
 pub use kept::Kept;
 pub use sat_core::Budget;
 pub use verdict::Verdict;
-

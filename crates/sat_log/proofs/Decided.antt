@@ -1,5 +1,5 @@
 -- The check decides what is accepted.
-use Rattle.std.proofs.Common.{◌≡◌, ◌≢◌, ℕ, ◌+◌, ◌*◌, Bool, true, false, not, cond, eqb, ◌||◌, ◌&&◌, ◌⊎◌, inl, inr, List, [], ◌∷◌, ◌++◌, map, refl, ap, sym, subst, ◌∙◌, arith}
+use Rattle.std.proofs.Common.{◌≡◌, ◌≢◌, ℕ, Bool, true, false, cond, eqb, ◌||◌, ◌⊎◌, inl, inr, List, [], ◌∷◌, ◌++◌, map, refl, ap, sym, subst, ◌∙◌}
 use Rattle.std.specs.Prelude.{Option, Some, None}
 use Rattle.std.specs.List.{AllByRecursion}
 use Rattle.std.proofs.lemmas.Bool.{false≢true, eqb-true, eq-eqb, or_right, and_parts}
@@ -213,11 +213,3 @@ distinct_sound c e = (assumable_distinct [] c e).0
 
 pub distinct_complete : (c : List Literal) → HasDistinctVariables c → can_assume [] c ≡ true
 distinct_complete c d = distinct_assumable [] c d (none_unset c)
-
--- what is not accepted, the check answers false
-pub not_accepted : (log : List LogLine) (line : LogLine) → ¬ Accepts log line → accepts log line ≡ false
-not_accepted log line none = by_value (accepts log line) refl
-  where
-    by_value : (b : Bool) → accepts log line ≡ b → accepts log line ≡ false
-    by_value true e = absurd (none (accepts_sound log line e))
-    by_value false e = e

@@ -1,5 +1,5 @@
 -- An accepted line is true in every assignment that satisfies the originals.
-use Rattle.std.proofs.Common.{◌≡◌, ℕ, zero, suc, Bool, true, false, not, cond, ◌||◌, inl, inr, List, [], ◌∷◌, ◌++◌, map, IsTrue, refl, ap, sym, ◌∙◌, append_assoc}
+use Rattle.std.proofs.Common.{◌≡◌, ℕ, zero, suc, Bool, true, false, not, cond, ◌||◌, List, [], ◌∷◌, ◌++◌, map, IsTrue, refl, ap, sym, ◌∙◌, append_assoc}
 use Rattle.std.specs.Prelude.{Option, Some, None, slice_get, option_to_list}
 use Rattle.std.specs.Option.{option_and_then}
 use Rattle.std.specs.List.{AllByRecursion}
@@ -7,7 +7,7 @@ use Rattle.std.proofs.lemmas.List.Folds.{list_any-append}
 use Rattle.std.proofs.lemmas.List.{append-nil}
 use Rattle.std.proofs.lemmas.Bool.{false≢true}
 use Rattle.sat_log.specs.Literal.{Literal, negated}
-use Rattle.sat_log.specs.Clause.{Among, literal_value, clause_value, Satisfies, IsFalsified, IsUnit}
+use Rattle.sat_log.specs.Clause.{literal_value, clause_value, Satisfies, IsFalsified, IsUnit}
 use Rattle.sat_log.specs.Accepted.{hinted, given, clause_at, Refutes, Accepts, IsOfKind, AreLines, IsLog, originals, clauses}
 use Rattle.sat_log.proofs.LiteralLemmas.{All-among, negated_value, Satisfies-append}
 use Rattle.sat_log.specs.declared.line.LineKind.{LineKind}

@@ -1,11 +1,11 @@
 -- A log, and its marks, through one more line.
-use Rattle.std.proofs.Common.{◌≡◌, ◌≢◌, ℕ, ◌<◌, ◌≤◌, length, take, drop, ap, List, [], ◌∷◌, ◌++◌, refl, sym, subst, append_assoc, arith}
+use Rattle.std.proofs.Common.{◌≡◌, ◌≢◌, ℕ, ◌<◌, ◌≤◌, max, length, take, drop, ap, List, [], ◌∷◌, ◌++◌, refl, sym, subst, append_assoc, arith}
 use Rattle.std.proofs.lemmas.List.{append-nil, take-append-drop}
 use Rattle.sat_log.specs.Literal.{Literal}
 use Rattle.sat_log.specs.Clause.{AreLiterals, HasDistinctVariables}
 use Rattle.sat_log.specs.Accepted.{Accepts, IsOriginal, IsOfKind, Follows, AreLines, IsLog}
 use Rattle.sat_log.specs.Marked.{Marked, HasRoomFor, HasRoomForAll, KeepsRoom}
-use Rattle.sat_log.specs.Checking.{IsUpTo, AreUpTo}
+use Rattle.sat_log.specs.Checking.{IsUpTo, AreUpTo, last_of, last_variable}
 use Rattle.sat_log.specs.Kept.{KeepsLog}
 use Rattle.sat_log.proofs.ListLemmas.{All-front}
 use Rattle.sat_log.proofs.MarkLemmas.{clause_keeps}
@@ -29,15 +29,17 @@ pub lines_front : (before lines more : List LogLine) → AreLines before (lines 
 lines_front before [] more h = tt
 lines_front before (line ∷ lines) more h = (h.0, lines_front (before ++ line ∷ []) lines more h.1)
 
-pub keeps_front : (log : List LogLine) (marks : Marked) (last last' n : ℕ) → KeepsLog log marks last → AreUpTo last' (take n log) → KeepsLog (take n log) marks last'
-keeps_front log marks last last' n k up_to =
+pub keeps_front : (log : List LogLine) (marks : Marked) (last last' n : ℕ) → KeepsLog log marks last → last' ≡ last_variable (take n log) → KeepsLog (take n log) marks last'
+keeps_front log marks last last' n k greatest =
     let whole = sym (take-append-drop n log) in
     record {
       log = record { lines = lines_front [] (take n log) (drop n log) (subst (AreLines []) whole k.log.lines) };
       clear = k.clear;
       room = All-front (λ line. HasRoomFor marks line.lits) (take n log) (drop n log) (subst (HasRoomForAll marks) whole k.room);
-      up_to = up_to;
+      greatest = greatest;
     }
+
+-- The greatest variable.
 
 pub up_to_more : (m n : ℕ) (c : List Literal) → m ≤ n → IsUpTo m c → IsUpTo n c
 up_to_more m n [] h u = tt
@@ -49,9 +51,19 @@ pub all_up_to_more : (m n : ℕ) (log : List LogLine) → m ≤ n → AreUpTo m 
 all_up_to_more m n [] h u = tt
 all_up_to_more m n (line ∷ log) h u = (up_to_more m n line.lits h u.0, all_up_to_more m n log h u.1)
 
-all_up_to_push : (n : ℕ) (log : List LogLine) (line : LogLine) → AreUpTo n log → IsUpTo n line.lits → AreUpTo n (log ++ line ∷ [])
-all_up_to_push n [] line h u = (u, tt)
-all_up_to_push n (x ∷ log) line h u = (h.0, all_up_to_push n log line h.1 u)
+up_to_last_of : (c : List Literal) → IsUpTo (last_of c) c
+up_to_last_of [] = tt
+up_to_last_of (l ∷ c) = (omega arith, up_to_more (last_of c) (max l.var (last_of c)) c (omega arith) (up_to_last_of c))
+
+pub up_to_last : (log : List LogLine) → AreUpTo (last_variable log) log
+up_to_last [] = tt
+up_to_last (line ∷ log) =
+    let most = max (last_of line.lits) (last_variable log) in
+    (up_to_more (last_of line.lits) most line.lits (omega arith) (up_to_last_of line.lits), all_up_to_more (last_variable log) most log (omega arith) (up_to_last log))
+
+last_push : (log : List LogLine) (line : LogLine) → last_variable (log ++ line ∷ []) ≡ max (last_of line.lits) (last_variable log)
+last_push [] line = refl
+last_push (x ∷ log) line = omega (arith, last_push log line)
 
 -- what is accepted and no original may come next
 pub accepted_follows : (log : List LogLine) (line : LogLine) → AreLiterals line.lits → line.kind ≢ Original → Accepts log line → Follows log line
@@ -71,19 +83,19 @@ all_room_push : (marks : Marked) (log : List LogLine) (line : LogLine) → HasRo
 all_room_push marks [] line h r = (r, tt)
 all_room_push marks (x ∷ log) line h r = (h.0, all_room_push marks log line h.1 r)
 
--- the marks were given more room, and the last variable may be greater
-pub keeps_room : (log : List LogLine) (old new : Marked) (last last' : ℕ) → KeepsLog log old last → new.set ≡ [] → KeepsRoom old new → last ≤ last' → KeepsLog log new last'
-keeps_room log old new last last' k clear keeps more =
-    record { log = k.log; clear = clear; room = all_keep old new log keeps k.room; up_to = all_up_to_more last last' log more k.up_to }
+-- the marks were given more room
+pub keeps_room : (log : List LogLine) (old new : Marked) (last : ℕ) → KeepsLog log old last → new.set ≡ [] → KeepsRoom old new → KeepsLog log new last
+keeps_room log old new last k clear keeps =
+    record { log = k.log; clear = clear; room = all_keep old new log keeps k.room; greatest = k.greatest }
 
 -- a line was appended that may come next
-pub keeps_push : (log : List LogLine) (line : LogLine) (old new : Marked) (last most last' : ℕ) → KeepsLog log old last → new.set ≡ [] → KeepsRoom old new → Follows log line → HasRoomFor new line.lits → IsUpTo most line.lits → most ≤ last' → last ≤ last' → KeepsLog (log ++ line ∷ []) new last'
-keeps_push log line old new last most last' k clear keeps follows room u h more =
+pub keeps_push : (log : List LogLine) (line : LogLine) (old new : Marked) (last most last' : ℕ) → KeepsLog log old last → new.set ≡ [] → KeepsRoom old new → Follows log line → HasRoomFor new line.lits → most ≡ last_of line.lits → last' ≡ max most last → KeepsLog (log ++ line ∷ []) new last'
+keeps_push log line old new last most last' k clear keeps follows room same greatest =
     record {
       log = log_push log line k.log follows;
       clear = clear;
       room = all_room_push new log line (all_keep old new log keeps k.room) room;
-      up_to = all_up_to_push last' log line (all_up_to_more last last' log more k.up_to) (up_to_more most last' line.lits h u);
+      greatest = omega (arith, last_push log line, same, greatest, k.greatest);
     }
 
 -- a line with a literal, no variable twice and no hint is an original

@@ -1,5 +1,5 @@
 -- The table of literals that are set: its places, a write, and a clearing.
-use Rattle.std.proofs.Common.{◌≡◌, ◌≢◌, ℕ, suc, ◌+◌, ◌*◌, ◌<◌, ◌≤◌, Bool, true, false, cond, not, eqb, ltb, ◌||◌, ◌⊎◌, inl, inr, List, [], ◌∷◌, ◌++◌, length, get_or, set, take, refl, ap, sym, ◌∙◌, subst, get_or-set_same, get_or-set_other, length-set, arith, rules, tests}
+use Rattle.std.proofs.Common.{◌≡◌, ◌≢◌, ℕ, suc, ◌+◌, ◌*◌, ◌<◌, ◌≤◌, Bool, true, false, cond, not, eqb, ltb, ◌||◌, ◌⊎◌, inl, inr, List, [], ◌∷◌, ◌++◌, length, get_or, set, take, refl, ap, sym, ◌∙◌, subst, get_or-set_same, get_or-set_other, length-set, arith}
 use Rattle.std.specs.Prelude.{count_by, Some, None}
 use Rattle.std.specs.List.{AllByRecursion, list_any, position, position_or_len}
 use Rattle.std.proofs.lemmas.List.Sums.{sum_by-set, count_by-le-length, prefix_len-le-length, passes_at_first}
@@ -10,7 +10,7 @@ use Rattle.indexmap.specs.IndexSet.{insert_key}
 use Rattle.sat_log.specs.Literal.{Literal, packed}
 use Rattle.sat_log.specs.Marked.{Marked, is_numbered, place, places, HasPlace, HasRoomFor, KeepsRoom, placed, is_placed, Agrees, IsClear}
 use Rattle.sat_log.specs.Checking.{IsUpTo}
-use Rattle.sat_log.proofs.ListLemmas.{All-append, All-front, All-back}
+use Rattle.sat_log.proofs.ListLemmas.{All-append}
 use Rattle.sat_log.proofs.LiteralLemmas.{literal_by_parts, packed_injective}
 
 -- Places of variables.
@@ -121,13 +121,6 @@ keeps_pushed room far k v h = by_room (cases_lt room v)
         let inside : position_or_len (eqb v) far < length far = omega (arith, far_place room far v a) in
         omega (arith, far_place room (far ++ k ∷ []) v a, position_pushed v far k inside, length_push far k)
 
-pub keeps_inserted : (room : ℕ) (far : List ℕ) (k v : ℕ) → HasPlace room far v → HasPlace room (insert_key eqb far k) v
-keeps_inserted room far k v h = by_test (list_any (eqb k) far)
-  where
-    by_test : (b : Bool) → HasPlace room (cond b far (far ++ k ∷ [])) v
-    by_test true = h
-    by_test false = keeps_pushed room far k v h
-
 pushed_place : (k : ℕ) (far : List ℕ) → position_or_len (eqb k) (far ++ k ∷ []) < length far + 1
 pushed_place k far = by_place (cases_eq (position_or_len (eqb k) far) (length far))
   where
@@ -153,10 +146,6 @@ inserted_size far k = by_test (list_any (eqb k) far)
     by_test : (b : Bool) → length (cond b far (far ++ k ∷ [])) ≤ length far + 1
     by_test true = omega arith
     by_test false = omega (arith, length_push far k)
-
-pub wider_keeps : (old new : Marked) → old.room ≤ new.room → new.far ≡ old.far → KeepsRoom old new
-wider_keeps old new more same v h =
-    subst (λ far. HasPlace new.room far v) (sym same) (keeps_wider old.room new.room old.far more v h)
 
 -- Room for a variable is room for the variables of clauses.
 
@@ -187,10 +176,6 @@ clear_agrees room far truths capacity size clear spare =
     all_false [] h = refl
     all_false (true ∷ truths) h = absurd (false≢true (sym (h 0 (omega arith))))
     all_false (false ∷ truths) h = all_false truths (λ n below. h (suc n) (omega arith))
-
-pub agrees_clear : (room : ℕ) (far : List ℕ) (truths : List Bool) (trail : List Literal) (capacity : ℕ) → Agrees room far truths trail capacity → trail ≡ [] → IsClear truths
-agrees_clear room far truths trail capacity a none n h =
-    a.values n h ∙ ap (λ t. is_placed room far t n) none
 
 -- a longer table in which nothing is set
 pub stretched : (room : ℕ) (far : List ℕ) (truths : List Bool) (trail : List Literal) (capacity : ℕ) → trail ≡ [] → 2 * places room far ≤ length truths → IsClear truths → length truths ≤ capacity → Agrees room far truths trail capacity
@@ -259,33 +244,6 @@ pub record Covers (room : ℕ) (far : List ℕ) (truths : List Bool) (trail : Li
   pub within : AllByRecursion (λ l. HasPlace room far l.var) trail
   pub covered : (n : ℕ) → n < length truths → get_or truths n false ≡ true → is_placed room far trail n ≡ true
   pub spare : length truths ≤ capacity
-
-pub agrees_covers : (room : ℕ) (far : List ℕ) (truths : List Bool) (trail : List Literal) (capacity : ℕ) → Agrees room far truths trail capacity → Covers room far truths trail capacity
-agrees_covers room far truths trail capacity a =
-    record { size = a.size; within = a.within; covered = (λ n h e. sym (a.values n h) ∙ e); spare = a.spare }
-
--- the last literal of the trail is taken away
-pub covers_pop : (room : ℕ) (far : List ℕ) (truths : List Bool) (trail : List Literal) (capacity n : ℕ) (l : Literal) → packed (placed room far l) ≡ n → Covers room far truths (trail ++ l ∷ []) capacity → Covers room far (set truths n false) trail capacity
-covers_pop room far truths trail capacity n l code a =
-    let kept : length (set truths n false) ≡ length truths = length-set truths n false in
-    let bound : packed (placed room far l) < 2 * places room far = number_within room far l (All-back (λ l. HasPlace room far l.var) trail (l ∷ []) a.within).0 in
-    let size : 2 * places room far ≤ length truths = a.size in
-    let inside : n < length truths = omega (arith, code) in
-    record {
-      size = subst (λ k. 2 * places room far ≤ k) (sym kept) size;
-      within = All-front (λ l. HasPlace room far l.var) trail (l ∷ []) a.within;
-      covered = (λ m below e. covered_pop m (subst (λ k. m < k) kept below) inside e);
-      spare = subst (λ k. k ≤ capacity) (sym kept) a.spare;
-    }
-  where
-    covered_pop : (m : ℕ) → m < length truths → n < length truths → get_or (set truths n false) m false ≡ true → is_placed room far trail m ≡ true
-    covered_pop m below inside e = by_place (cases_eq m n)
-      where
-        by_place : (m ≡ n) ⊎ (m ≡ n → ⊥) → is_placed room far trail m ≡ true
-        by_place (inl same) =
-            absurd (false≢true (sym (ap (λ k. get_or (set truths n false) k false) same ∙ get_or-set_same truths n false false inside) ∙ e))
-        by_place (inr ne) =
-            sym (or_false (is_placed room far trail m) (eqb (packed (placed room far l)) m) (ne_eqb (packed (placed room far l)) m (λ e. ne (sym e ∙ code)))) ∙ sym (is_placed-push room far trail l m) ∙ a.covered m below (sym (get_or-set_other truths n m false false ne) ∙ e)
 
 -- an empty trail covers no mark
 covers_none : (room : ℕ) (far : List ℕ) (truths : List Bool) (capacity : ℕ) → Covers room far truths [] capacity → Agrees room far truths [] capacity

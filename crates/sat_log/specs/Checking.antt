@@ -1,5 +1,5 @@
 -- How a line is checked, as functions on lists: the code equals them, and they decide what is accepted.
-use Rattle.std.specs.Prelude.{◌≡◌, ◌≤◌, ◌&&◌, ◌||◌, ℕ, Bool, true, false, if◌then◌else◌, Option, Some, None, List, [], ◌∷◌, ◌++◌, map}
+use Rattle.std.specs.Prelude.{◌≡◌, ◌≤◌, max, ◌&&◌, ◌||◌, ℕ, Bool, true, false, if◌then◌else◌, Option, Some, None, List, [], ◌∷◌, ◌++◌, map}
 use Rattle.std.specs.List.{AllByRecursion}
 use Rattle.sat_log.specs.Literal.{Literal, negated, packed}
 use Rattle.sat_log.specs.Marked.{Marked, HasPlace, is_numbered}
@@ -60,6 +60,16 @@ IsUpTo most c = AllByRecursion (λ l. l.var ≤ most) c
 -- no line has one
 abbrev pub AreUpTo : ℕ → List LogLine → Type 0
 AreUpTo most log = AllByRecursion (λ line. IsUpTo most line.lits) log
+
+-- the greatest variable of the literals, or 0
+abbrev pub last_of : List Literal → ℕ
+last_of [] = 0
+last_of (l ∷ c) = max l.var (last_of c)
+
+-- the greatest variable of the lines, or 0
+abbrev pub last_variable : List LogLine → ℕ
+last_variable [] = 0
+last_variable (line ∷ log) = max (last_of line.lits) (last_variable log)
 
 -- what a look says of the marks: a literal that a clause propagates is unset, and there is room for it
 abbrev pub LooksWithin : Marked → Look → Type 0

@@ -5,17 +5,17 @@ use Rattle.sat_log.specs.Literal.{Literal}
 use Rattle.sat_log.specs.Clause.{HasDistinctVariables}
 use Rattle.sat_log.specs.Marked.{Marked, HasRoomForAll}
 use Rattle.sat_log.specs.Accepted.{IsLog}
-use Rattle.sat_log.specs.Checking.{AreUpTo}
+use Rattle.sat_log.specs.Checking.{last_variable}
 use Rattle.sat_log.specs.declared.line.LineKind.TheVariants.{Original}
 use Rattle.sat_log.specs.declared.line.LogLine.{LogLine}
 
--- Each line may come after those before it, the marks are clear, with room for the lines, and no
--- variable is past the last one.
+-- Each line may come after those before it, the marks are clear, with room for the lines, and the last
+-- variable is the greatest one of the lines.
 pub record KeepsLog (lines : List LogLine) (marks : Marked) (last : ℕ) : Type 0 where
   pub log : IsLog lines
   pub clear : marks.set ≡ []
   pub room : HasRoomForAll marks lines
-  pub up_to : AreUpTo last lines
+  pub greatest : last ≡ last_variable lines
 
 -- the line of an original clause
 abbrev pub original : List Literal → LogLine

@@ -6,7 +6,7 @@ ghost use Rattle.std.specs.Option.{option_copied};
 ghost use Rattle.sat_log.specs.Literal.{negated};
 ghost use Rattle.sat_log.specs.Clause.{AreLiterals};
 ghost use Rattle.sat_log.specs.Accepted.{Accepts, clause_at, line_at};
-ghost use Rattle.sat_log.specs.Checking.{IsUpTo, can_assume, look, refutes, accepts, LooksWithin};
+ghost use Rattle.sat_log.specs.Checking.{last_of, can_assume, look, refutes, accepts, LooksWithin};
 ghost use Rattle.sat_log.specs.Marked.{HasRoomFor, HasRoomForAll};
 
 use crate::marks::{Look, Marks};
@@ -33,9 +33,9 @@ pub(crate) fn clause_at(lines: &[LogLine], id: u64) -> Option<&[SLit]>
     }
 }
 
-/// A variable past which none stands in the clause.
+/// The greatest variable of the clause, or 0.
 pub(crate) fn last_variable(literals: &[SLit]) -> u64
-    ensures last { IsUpTo result literals.now }
+    ensures last { result ≡ last_of literals.now }
     ensures literals { AreLiterals literals.now }
 {
     let mut last = 0;

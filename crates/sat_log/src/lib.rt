@@ -14,4 +14,3 @@ pub use lists::{Ids, SLits};
 pub use literal::SLit;
 pub use log::{AppendFault, Log, accepts};
 pub use marks::Marks;
-

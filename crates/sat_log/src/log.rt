@@ -2,7 +2,7 @@ ghost use Rattle.std.specs.Prelude.{◌≡◌, ◌≢◌, ◌++◌, ◌∷◌, �
 ghost use Rattle.std.specs.Option.{option_copied};
 ghost use Rattle.sat_log.specs.Clause.{HasDistinctVariables};
 ghost use Rattle.sat_log.specs.Accepted.{Accepts, IsOriginal, IsOfKind, IsLog, line_at, clause_at, originals};
-ghost use Rattle.sat_log.specs.Checking.{IsUpTo, AreUpTo};
+ghost use Rattle.sat_log.specs.Checking.{IsUpTo, AreUpTo, last_variable};
 ghost use Rattle.sat_log.specs.Kept.{original, AreProper};
 ghost use Rattle.sat_log.specs.declared.line.LineKind.TheVariants.{Original};
 
@@ -57,7 +57,7 @@ pub struct Log {
     lines: Vec<LogLine>,
     /// They are clear, and have room for the variables of the lines.
     marks: Marks,
-    /// No variable of the lines is past this one.
+    /// The greatest variable of the lines, or 0.
     last: u64,
 }
 
@@ -135,9 +135,9 @@ impl Log {
         Ok(())
     }
 
-    /// Takes all lines away but the first ones, in which no variable is past the last one.
+    /// Takes all lines away but the first ones, in which this is the greatest variable.
     fn take_back(&mut self, count: usize, last: u64)
-        requires { AreUpTo last (take count self.old) }
+        requires { last ≡ last_variable (take count self.old) }
         ensures { self.new ≡ take count self.old }
     {
         self.lines.truncate(count);
@@ -250,9 +250,10 @@ impl Log {
         count_originals(self.lines.as_slice())
     }
 
-    /// A variable past which none stands in the log, as marks need it that check a line.
+    /// The greatest variable of the log, or 0: marks that check a line need room up to it.
     pub fn variables(&self) -> u64
-        ensures { AreUpTo result self.now }
+        ensures greatest { result ≡ last_variable self.now }
+        ensures within { AreUpTo result self.now }
     {
         self.last
     }

@@ -6,8 +6,8 @@ ghost use Rattle.sat_log_text.specs.Page.{words, words_after, page};
 ghost use Rattle.sat_log_text.specs.Reading.{items, number_of, literal_of, hints_of, after_letter, line_of, same_bytes, end_of, is_header, at_end, all_named, may_follow, with_words, read_page};
 ghost use Rattle.sat_log_text.specs.Answers.{IsAnswer, IsAnswerAt, IsLogAnswer};
 
-use crate::words::{kind, literal, number, piece_at, same_bytes};
 use crate::LogFault;
+use crate::words::{kind, literal, number, piece_at, same_bytes};
 use itoa::Buffer;
 use sat_log::{AppendFault, Ids, LineKind, Log, LogLine, SLits};
 use std::alloc::{AllocError, Global};

@@ -50,4 +50,3 @@ pub fn read_text(alloc: Global, bytes: &[u8]) -> Result<Log, LogFault>
         Err(fault) => Err(fault),
     }
 }
-

@@ -3,7 +3,7 @@ ghost use Rattle.shell.specs.CheckLog.{ChecksLog, ChecksText};
 use crate::event::{Event, Refusal};
 use crate::files::read_file;
 use outside::{Files, Text};
-use sat_log::{LogFault, read_text};
+use sat_log_text::{LogFault, read_text};
 use std::alloc::Global;
 
 /// A log has at most so many bytes.

@@ -1,5 +1,5 @@
 use outside::Text;
-use sat_log::LogFault;
+use sat_log_text::LogFault;
 use smv_parse::ParseFault;
 use smv_tree::Place;
 

@@ -8,7 +8,7 @@ ghost use Rattle.shell.specs.Written.{WritesAll, WritesFront};
 use crate::event::{Cause, Event, Refusal};
 use itoa::Buffer;
 use outside::{Failed, Sink, put_parts};
-use sat_log::LogFault;
+use sat_log_text::LogFault;
 use smv_parse::ParseFault;
 use smv_tree::Place;
 

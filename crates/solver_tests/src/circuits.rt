@@ -5,7 +5,9 @@ use gates::{Bits, Gates, Lit, Lits, Truths};
 use std::alloc::{AllocError, Global};
 use std::process::Abort;
 use std::test::Fail;
-use word_bits::{add, concat, eq, extend, mul, mux, neg, sdiv_rem, select, shl, shr, slt, sub, udiv_rem, ult};
+use word_bits::{
+    add, concat, eq, extend, mul, mux, neg, sdiv_rem, select, shl, shr, slt, sub, udiv_rem, ult,
+};
 
 /// A circuit over two vectors of equal width.
 #[derive(Clone, Copy)]
