@@ -293,25 +293,47 @@ pub const RESET: Table<0> = FLATTEN_HIERARCHY;
 /// `quit`
 pub const QUIT: Table<0> = FLATTEN_HIERARCHY;
 
-// The words of the table's options differ, and there are at most 32.
-fn is_sound<const N: usize>(table: &Table<N>)
-    requires { IsTrue (is_sound table.now) }
-{
-    let _ = table;
+/// The tables that have options; of equal ones the first stands here.
+#[derive(Drop)]
+pub struct OptionTables {
+    pub read_model: Table<1>,
+    pub check_ltlspec_bmc: Table<5>,
+    pub bmc_pick_state: Table<2>,
+    pub bmc_simulate: Table<5>,
+    pub print_current_state: Table<1>,
+    pub show_traces: Table<4>,
+    pub read_text_trace: Table<2>,
+    pub execute_text_trace: Table<1>,
+    pub execute_traces: Table<2>,
+    pub source: Table<3>,
+    pub echo: Table<3>,
 }
 
-/// No two options of a command have one word, and there are at most 32: each call below is a proof of it for
-/// one table. Of equal tables the first one stands here, and those without options need no proof.
-pub fn words_differ() {
-    is_sound(&READ_MODEL);
-    is_sound(&CHECK_LTLSPEC_BMC);
-    is_sound(&BMC_PICK_STATE);
-    is_sound(&BMC_SIMULATE);
-    is_sound(&PRINT_CURRENT_STATE);
-    is_sound(&SHOW_TRACES);
-    is_sound(&READ_TEXT_TRACE);
-    is_sound(&EXECUTE_TEXT_TRACE);
-    is_sound(&EXECUTE_TRACES);
-    is_sound(&SOURCE);
-    is_sound(&ECHO);
+/// In no table do two options have one word, and none has more than 32 options.
+pub fn words_differ() -> OptionTables
+    ensures read_model { IsTrue (is_sound result.read_model) }
+    ensures check_ltlspec_bmc { IsTrue (is_sound result.check_ltlspec_bmc) }
+    ensures bmc_pick_state { IsTrue (is_sound result.bmc_pick_state) }
+    ensures bmc_simulate { IsTrue (is_sound result.bmc_simulate) }
+    ensures print_current_state { IsTrue (is_sound result.print_current_state) }
+    ensures show_traces { IsTrue (is_sound result.show_traces) }
+    ensures read_text_trace { IsTrue (is_sound result.read_text_trace) }
+    ensures execute_text_trace { IsTrue (is_sound result.execute_text_trace) }
+    ensures execute_traces { IsTrue (is_sound result.execute_traces) }
+    ensures source { IsTrue (is_sound result.source) }
+    ensures echo { IsTrue (is_sound result.echo) }
+{
+    OptionTables {
+        read_model: READ_MODEL,
+        check_ltlspec_bmc: CHECK_LTLSPEC_BMC,
+        bmc_pick_state: BMC_PICK_STATE,
+        bmc_simulate: BMC_SIMULATE,
+        print_current_state: PRINT_CURRENT_STATE,
+        show_traces: SHOW_TRACES,
+        read_text_trace: READ_TEXT_TRACE,
+        execute_text_trace: EXECUTE_TEXT_TRACE,
+        execute_traces: EXECUTE_TRACES,
+        source: SOURCE,
+        echo: ECHO,
+    }
 }
