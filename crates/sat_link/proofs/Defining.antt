@@ -1,5 +1,5 @@
 -- The clauses of nodes are true at just the valuations of the nodes.
-use Rattle.std.proofs.Common.{◌≡◌, ◌<◌, ◌+◌, ◌-◌, ℕ, zero, suc, Bool, true, false, not, cond, ◌||◌, ◌&&◌, List, [], ◌∷◌, ◌++◌, length, IsTrue, refl, sym, ap, subst, ◌∙◌, arith}
+use Rattle.std.proofs.Common.{◌≡◌, ◌<◌, ◌+◌, ◌-◌, ℕ, zero, suc, Bool, true, false, not, cond, ◌||◌, ◌&&◌, List, [], ◌∷◌, length, IsTrue, refl, sym, ap, subst, ◌∙◌, arith}
 use Rattle.std.proofs.Math.Path.{transport}
 use Rattle.std.proofs.Math.Bool.{or-false}
 use Rattle.std.proofs.lemmas.Bool.{false≢true}
@@ -9,7 +9,7 @@ use Rattle.gates.specs.declared.node.Node.TheVariants.{True, Input, And}
 use Rattle.gates.specs.Nodes.{node_at, WellFormed}
 use Rattle.gates.specs.Valuation.{value_at, value_of, MayBe}
 use Rattle.gates.proofs.Growth.{node_at-zero}
-use Rattle.sat_log.specs.Literal.{Literal, negated}
+use Rattle.sat_log.specs.Literal.{negated}
 use Rattle.sat_log.specs.Clause.{literal_value, Satisfies}
 use Rattle.sat_log.proofs.LiteralLemmas.{negated_value, Satisfies-append, Satisfies-parts}
 use Rattle.sat_core.specs.Assignment.{assignment}

@@ -1,5 +1,5 @@
 -- The nodes that have their clauses grow towards those of the gates.
-use Rattle.std.proofs.Common.{◌≡◌, ◌≤◌, ◌<◌, ◌+◌, ℕ, List, [], ◌∷◌, ◌++◌, length, take, sym, ap, subst, ◌∙◌, arith}
+use Rattle.std.proofs.Common.{◌≡◌, ◌<◌, ◌+◌, ℕ, List, [], ◌∷◌, ◌++◌, length, take, sym, ap, subst, ◌∙◌, arith}
 use Rattle.std.proofs.lemmas.List.{take_more, length_push}
 use Rattle.gates.specs.declared.node.Node.{Node}
 use Rattle.gates.specs.declared.node.Node.TheVariants.{True}

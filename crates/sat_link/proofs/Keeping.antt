@@ -1,6 +1,5 @@
 -- What a kept solver keeps, from one node to the next.
-use Rattle.std.proofs.Common.{◌≡◌, ◌≢◌, ◌≤◌, ◌<◌, ◌+◌, ◌^◌, ℕ, suc, List, [], ◌∷◌, ◌++◌, length, map, sym, ap, subst, ◌∙◌, append_assoc, ⊎_elim, Result, Ok, Err, OnOk, arith}
-use Rattle.std.specs.Prelude.{OnErr}
+use Rattle.std.proofs.Common.{◌≡◌, ◌≢◌, ◌≤◌, ◌<◌, ◌+◌, ◌^◌, ℕ, suc, List, [], ◌∷◌, ◌++◌, length, map, sym, ap, subst, ◌∙◌, append_assoc, ⊎_elim, arith}
 use Rattle.std.specs.List.{AllByRecursion}
 use Rattle.std.proofs.lemmas.List.{append-nil, length_push, get_or_append_left, get_or_push}
 use Rattle.std.proofs.lemmas.Bool.{cases_lt}
@@ -9,7 +8,6 @@ use Rattle.gates.specs.declared.node.Node.TheVariants.{True, Input, And}
 use Rattle.gates.specs.Nodes.{StandsAt}
 use Rattle.sat_log.specs.Clause.{AreLiterals}
 use Rattle.sat_log.specs.Accepted.{originals, IsLog}
-use Rattle.sat_log.specs.Checking.{IsUpTo}
 use Rattle.sat_log.specs.Kept.{original, AreProper}
 use Rattle.sat_core.specs.Contents.{Contents as SolverContents}
 use Rattle.sat_link.specs.Encoding.{clauses_of, clauses_from, definitions}

@@ -1,4 +1,4 @@
-use Rattle.std.proofs.Common.{◌≡◌, ◌<◌, ◌+◌, ◌^◌, ◌++◌, length, map, ap, subst, ◌∙◌, arith}
+use Rattle.std.proofs.Common.{◌≡◌, ◌<◌, ◌+◌, ◌^◌, ◌++◌, length, map, ap, ◌∙◌, arith}
 use Rattle.sat_log.specs.Kept.{original}
 use Rattle.sat_link.specs.Encoding.{clauses_of}
 use Rattle.sat_link.specs.Contents.{KeepsClauses}
