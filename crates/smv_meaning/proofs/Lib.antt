@@ -6,3 +6,4 @@ pub mod FirstNames
 pub mod NamedDefinitions
 pub mod NamedOrNot
 pub mod Orders
+pub mod Parents

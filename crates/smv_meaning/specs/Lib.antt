@@ -6,3 +6,4 @@ pub mod Runs
 pub mod Walks
 pub mod Definitions
 pub mod Cycles
+pub mod Rows
