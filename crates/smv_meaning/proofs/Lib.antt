@@ -7,3 +7,4 @@ pub mod NamedDefinitions
 pub mod NamedOrNot
 pub mod Orders
 pub mod Parents
+pub mod RowsThere

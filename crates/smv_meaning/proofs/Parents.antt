@@ -75,7 +75,7 @@ module _ (program : List Body) (below : List (List ℕ) → List (List ℕ) → 
       by_place (inr d) f g = let b = g d in let a = b.1 in (b.0, (a.0, a.1, to_right a.0 (contains_cases (is_instance owner) back (is_instance a.0) a.2), a.3, a.4))
 
 -- each instance at or behind a path is of a module of the program, and stands behind another, but for the first
-all_stand : (program : List Body) (depth : ℕ) (path up : List (List ℕ)) (m : List ℕ) (es : List Tree) → AllStand program (entries_below depth program path up m es) path up
+pub all_stand : (program : List Body) (depth : ℕ) (path up : List (List ℕ)) (m : List ℕ) (es : List Tree) → AllStand program (entries_below depth program path up m es) path up
 all_stand program zero path up m es i c = absurd (contains_none (is_instance i) c)
 all_stand program (suc depth) path up m es i c = by_module (find_body m program) refl c (all_stand program depth)
   where

@@ -1,5 +1,5 @@
 -- The instances of a program by number.
-use Rattle.std.specs.Prelude.{◌≡◌, ℕ, List, [], ◌∷◌, Option, Some, None, position, slice_get}
+use Rattle.std.specs.Prelude.{◌≡◌, ℕ, List, [], ◌∷◌, ◌++◌, Contains, Option, Some, None, position, slice_get}
 use Rattle.std.specs.List.{AllZip}
 use Rattle.std.specs.Str.{bytes_eq}
 use Rattle.smv_tree.specs.Models.{Body}
@@ -27,3 +27,14 @@ pub record IsRow (program : List Body) (i : Instance) (r : Row) : Type 0 where
 -- a row for each instance, in order
 abbrev pub AreRows : List Body → List Row → Type 0
 AreRows program rows = AllZip (IsRow program) (instances program) rows
+
+-- the main instance
+pub record IsMain (i : Instance) : Type 0 where
+  pub path : i.path ≡ []
+  pub up : i.up ≡ []
+
+-- the instance of this name right behind another of the program
+pub record IsBehind (program : List Body) (i : Instance) (j : Instance) (n : List ℕ) : Type 0 where
+  pub listed : Contains (instances program) j
+  pub path : i.path ≡ j.path ++ n ∷ []
+  pub up : i.up ≡ n ∷ j.up

@@ -9,9 +9,11 @@
 mod cycles;
 mod laws;
 mod one_naming;
+mod rows;
 
 pub use cycles::{ordered_definitions_settle, settled_program_has_no_cycle};
 pub use laws::{
     constant_is_its_value, front_of_run_is_run, members_keep_their_order, next_is_one_step,
 };
 pub use one_naming::{each_expression_has_one_list_of_values, each_moment_has_one_naming};
+pub use rows::{instances_have_rows, instances_stand_behind_others};
