@@ -8,3 +8,5 @@ pub mod NamedOrNot
 pub mod Orders
 pub mod Parents
 pub mod RowsThere
+pub mod FlatFits
+pub mod FlatValues

@@ -46,6 +46,7 @@ module _ (program : List Body) (below : List (List ℕ) → List (List ℕ) → 
     where
       all : List Entry
       all = below (path ++ n ∷ []) (n ∷ up) m es
+
       by_case : ((i.path ≡ path ++ n ∷ []) × (i.up ≡ n ∷ up)) ⊎ ((j : Instance) × (l : List ℕ) × Contains all (is_instance j) × (i.path ≡ j.path ++ l ∷ []) × (i.up ≡ l ∷ j.up))
           → (j : Instance) × (l : List ℕ) × Contains (is_instance owner ∷ all) (is_instance j) × (i.path ≡ j.path ++ l ∷ []) × (i.up ≡ l ∷ j.up)
       by_case (inl e) = (owner, n, contains_first (is_instance owner) all, e.0 ∙ ap (λ x. x ++ n ∷ []) (sym p), e.1 ∙ ap (λ x. n ∷ x) (sym u))
@@ -63,13 +64,17 @@ module _ (program : List Body) (below : List (List ℕ) → List (List ℕ) → 
     where
       front : List Entry
       front = part_entries below path up part
+
       back : List Entry
       back = flat_map (part_entries below path up) parts
+
       to_left : (j : Instance) → (Contains (is_instance owner ∷ front) (is_instance j)) → Contains (is_instance owner ∷ (front ++ back)) (is_instance j)
       to_left j d = Contains-append_left (is_instance owner ∷ front) back (is_instance j) d
+
       to_right : (j : Instance) → (is_instance owner ≡ is_instance j) ⊎ Contains back (is_instance j) → Contains (is_instance owner ∷ (front ++ back)) (is_instance j)
       to_right j (inl e) = subst (Contains (is_instance owner ∷ (front ++ back))) e (contains_first (is_instance owner) (front ++ back))
       to_right j (inr d) = contains_later (is_instance owner) (front ++ back) (is_instance j) (Contains-append_right front back (is_instance j) d)
+
       by_place : Contains front (is_instance i) ⊎ Contains back (is_instance i) → (Contains front (is_instance i) → Behind path up owner front i) → (Contains back (is_instance i) → Behind path up owner back i) → Behind path up owner (front ++ back) i
       by_place (inl d) f g = let b = f d in let a = b.1 in (b.0, (a.0, a.1, to_left a.0 a.2, a.3, a.4))
       by_place (inr d) f g = let b = g d in let a = b.1 in (b.0, (a.0, a.1, to_right a.0 (contains_cases (is_instance owner) back (is_instance a.0) a.2), a.3, a.4))
@@ -81,6 +86,7 @@ all_stand program (suc depth) path up m es i c = by_module (find_body m program)
   where
     below : Option Body → List Entry
     below o = list_of (λ body. is_instance (record { path = path; up = up; body = body; actuals = es }) ∷ flat_map (part_entries (entries_below depth program) path up) body.parts) o
+
     by_place : (b : Body) → find_body m program ≡ Some b → (is_instance (record { path = path; up = up; body = b; actuals = es }) ≡ is_instance i) ⊎ Contains (flat_map (part_entries (entries_below depth program) path up) b.parts) (is_instance i)
         → ((path up : List (List ℕ)) (m : List ℕ) (es : List Tree) → AllStand program (entries_below depth program path up m es) path up) → StandsIn program (below (Some b)) path up i
     by_place b f (inl e) h =
@@ -89,6 +95,7 @@ all_stand program (suc depth) path up m es i c = by_module (find_body m program)
     by_place b f (inr d) h =
         let s = parts_behind program (entries_below depth program) h path up (record { path = path; up = up; body = b; actuals = es }) refl refl b.parts i d in
         record { found = s.0; around = inr s.1 }
+
     by_module : (o : Option Body) → find_body m program ≡ o → Contains (below o) (is_instance i)
         → ((path up : List (List ℕ)) (m : List ℕ) (es : List Tree) → AllStand program (entries_below depth program path up m es) path up) → StandsIn program (below o) path up i
     by_module None f c h = absurd (contains_none (is_instance i) c)

@@ -7,3 +7,5 @@ pub mod Walks
 pub mod Definitions
 pub mod Cycles
 pub mod Rows
+pub mod FlatTrees
+pub mod FlatLines

@@ -7,11 +7,13 @@
 //! definitions.
 
 mod cycles;
+mod flat_lines;
 mod laws;
 mod one_naming;
 mod rows;
 
 pub use cycles::{ordered_definitions_settle, settled_program_has_no_cycle};
+pub use flat_lines::{flat_values_are_those_of_the_program, line_settles};
 pub use laws::{
     constant_is_its_value, front_of_run_is_run, members_keep_their_order, next_is_one_step,
 };
