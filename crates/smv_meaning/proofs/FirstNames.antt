@@ -90,6 +90,7 @@ parameter_found up n (f ∷ fs) (x ∷ es) d e = by_test (bytes_eq f.name n) ref
   where
     own : Definition
     own = record { up = up; name = f.name; place = f.place; around = outer up; body = x }
+
     by_test : (b : Bool) → bytes_eq f.name n ≡ b → cond b (Some own) (find (λ d. bytes_eq d.name n) (parameters_of up fs es)) ≡ Some d → (find (λ d. bytes_eq d.name n) (parameters_of up fs es) ≡ Some d → IsParameter up n d) → IsParameter up n d
     by_test true h e rest =
         let same : own ≡ d = cc in
@@ -108,6 +109,7 @@ picked_parameter actual up n (f ∷ fs) (x ∷ es) other d e = by_test (bytes_eq
   where
     own : Definition
     own = record { up = up; name = f.name; place = f.place; around = outer up; body = x }
+
     by_test : (b : Bool) → cond b (Some own) (parameter_named up n fs es) ≡ Some d → (parameter_named up n fs es ≡ Some d → picked actual n fs es other ≡ actual d.body) → cond b (actual x) (picked actual n fs es other) ≡ actual d.body
     by_test true e rest = let same : own ≡ d = cc in ap (λ y. actual y.body) same
     by_test false e rest = rest e
@@ -142,6 +144,7 @@ picked_missing actual up n (f ∷ fs) (x ∷ es) other t e = by_test (bytes_eq f
   where
     own : Definition
     own = record { up = up; name = f.name; place = f.place; around = outer up; body = x }
+
     by_test : (b : Bool) → (b || list_any (λ f. bytes_eq f.name n) fs) ≡ true → cond b (Some own) (parameter_named up n fs es) ≡ None → (list_any (λ f. bytes_eq f.name n) fs ≡ true → parameter_named up n fs es ≡ None → IsNoBody (picked actual n fs es other)) → IsNoBody (cond b (actual x) (picked actual n fs es other))
     by_test true t e rest = absurd (cc)
     by_test false t e rest = rest t e
@@ -167,6 +170,7 @@ define_found up n (define m p x ∷ parts) d e = by_test (bytes_eq m n) refl e (
   where
     own : Definition
     own = record { up = up; name = m; place = p; around = up; body = x }
+
     by_test : (b : Bool) → bytes_eq m n ≡ b → option_and_then (define_of up) (cond b (Some (define m p x)) (find (declares n) parts)) ≡ Some d → (define_among up n parts ≡ Some d → IsDefine up n d) → IsDefine up n d
     by_test true h e rest =
         let same : own ≡ d = cc in
@@ -193,6 +197,7 @@ member_define path up n (define m p x ∷ parts) other d e = by_test (bytes_eq m
   where
     own : Definition
     own = record { up = up; name = m; place = p; around = up; body = x }
+
     by_test : (b : Bool) → option_and_then (define_of up) (cond b (Some (define m p x)) (find (declares n) parts)) ≡ Some d → (define_among up n parts ≡ Some d → member_of path up n parts other ≡ to_body up d.body) → or_else (cond b (Some (to_body up x)) None) (member_of path up n parts other) ≡ to_body up d.body
     by_test true e rest = let same : own ≡ d = cc in ap (λ y. to_body up y.body) same
     by_test false e rest = rest e

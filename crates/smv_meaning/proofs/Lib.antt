@@ -12,3 +12,7 @@ pub mod Truths
 pub mod SettledTruths
 pub mod Sweeping
 pub mod Partials
+pub mod Parents
+pub mod RowsThere
+pub mod FlatFits
+pub mod FlatValues

@@ -1,6 +1,6 @@
 -- Elements of lists.
-use Rattle.std.proofs.Common.{◌≡◌, ◌<◌, ℕ, suc, zero, Bool, true, false, cond, List, [], ◌∷◌, ◌++◌, length, refl, ap, sym, ◌∙◌, subst, arith, lit<, inl, inr}
-use Rattle.std.specs.Prelude.{Contains, Option, Some, None, ◌⊎◌, find, flat_map, filter_map}
+use Rattle.std.proofs.Common.{◌≡◌, ◌<◌, ℕ, suc, zero, Bool, true, false, cond, List, [], ◌∷◌, ◌++◌, length, map, refl, ap, sym, ◌∙◌, subst, arith, lit<, inl, inr}
+use Rattle.std.specs.Prelude.{Contains, Option, Some, None, ◌⊎◌, find, flat_map, filter_map, slice_get}
 use Rattle.std.specs.List.{cons_option}
 use Rattle.std.specs.Str.{bytes_eq}
 use Rattle.std.proofs.lemmas.Bool.{false≢true}
@@ -62,9 +62,22 @@ contains_filter_map {X} {Y} h (z ∷ zs) x y c e =
   where
     first : h z ≡ Some y → Contains (cons_option (h z) (filter_map h zs)) y
     first e = subst (λ o. Contains (cons_option o (filter_map h zs)) y) (sym e) (contains_first y (filter_map h zs))
+
     later : (o : Option Y) → Contains (filter_map h zs) y → Contains (cons_option o (filter_map h zs)) y
     later None c = c
     later (Some w) c = contains_later w (filter_map h zs) y c
+
+-- what stands at a place is in the list
+pub slice_get-contained : {X : Type 0} (xs : List X) (k : ℕ) (x : X) → slice_get xs k ≡ Some x → Contains xs x
+slice_get-contained [] k x e = absurd (cc)
+slice_get-contained (y ∷ ys) zero x e = let same : y ≡ x = cc in subst (Contains (y ∷ ys)) same (contains_first y ys)
+slice_get-contained (y ∷ ys) (suc k) x e = contains_later y ys x (slice_get-contained ys k x e)
+
+-- what stands at a place of a list that is made of another
+pub slice_get-map : {X Y : Type 0} (f : X → Y) (xs : List X) (k : ℕ) (x : X) → slice_get xs k ≡ Some x → slice_get (map f xs) k ≡ Some (f x)
+slice_get-map f [] k x e = absurd (cc)
+slice_get-map f (y ∷ ys) zero x e = let same : y ≡ x = cc in ap (λ z. Some (f z)) same
+slice_get-map f (y ∷ ys) (suc k) x e = slice_get-map f ys k x e
 
 -- lists of names that pass the test are the same
 pub same_names-true : (xs ys : List (List ℕ)) → same_names xs ys ≡ true → xs ≡ ys

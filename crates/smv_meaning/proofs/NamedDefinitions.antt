@@ -116,9 +116,9 @@ module _ (program : List Body) (d : Definition) (i : Instance) where
       let same : i.up ≡ m ∷ around = instance_at-up (instances program) (m ∷ around) i at_up in
       let out : d.around ≡ around = facts.stands ∙ ap outer same in
       let target : resolve program (m ∷ around) (d.name ∷ []) ≡ actual_target around (resolve program around) d.body =
-          resolve-own program (m ∷ around) d i at_up
-          ∙ (first_target-picked program (actual_in program (m ∷ around)) i d.name
-          ∙ picked_parameter (actual_in program (m ∷ around)) i.up d.name i.body.params i.actuals (member_of i.path i.up d.name i.body.parts (undeclared program i d.name)) d found) in
+      resolve-own program (m ∷ around) d i at_up
+      ∙ (first_target-picked program (actual_in program (m ∷ around)) i d.name
+      ∙ picked_parameter (actual_in program (m ∷ around)) i.up d.name i.body.params i.actuals (member_of i.path i.up d.name i.body.parts (undeclared program i d.name)) d found) in
       by_case (actual_case d.body) out target
     where
       by_case : ActualCase d.body → d.around ≡ around → resolve program (m ∷ around) (d.name ∷ []) ≡ actual_target around (resolve program around) d.body → Stands program (m ∷ around) (d.name ∷ []) d

@@ -30,6 +30,7 @@ first_no_body program up i n e = subst IsNoBody (sym (first_target-picked progra
   where
     other : Target
     other = member_of i.path i.up n i.body.parts (undeclared program i n)
+
     by_test : (b : Bool) → list_any (λ f. bytes_eq f.name n) i.body.params ≡ b → cond b (parameter_named i.up n i.body.params i.actuals) (define_named i n) ≡ None → IsNoBody (picked (actual_in program up) n i.body.params i.actuals other)
     by_test true h e = picked_missing (actual_in program up) i.up n i.body.params i.actuals other h e
     by_test false h e =
@@ -53,6 +54,7 @@ module _ (program : List Body) (up : List (List ℕ)) where
           let f = definition_found i n d e in
           inl (d, inl (record { instance = i; at_up = at_up; alone = ap (λ m. m ∷ []) (sym f.named); defined = ap (definition_named i) f.named ∙ e }))
       by_definition i at_up None e = inr (subst IsNoBody (sym (resolve-found program up n [] ∙ ap (looked_up program up n []) at_up)) (first_no_body program up i n e))
+
       by_instance : (o : Option Instance) → instance_at (instances program) up ≡ o → NamedOrNot program up (n ∷ [])
       by_instance (Some i) at_up = by_definition i at_up (definition_named i n) refl
       by_instance None at_up = inr (subst IsNoBody (sym (resolve-found program up n [] ∙ ap (looked_up program up n []) at_up)) tt)
@@ -62,22 +64,28 @@ module _ (program : List Body) (up : List (List ℕ)) where
     where
       goes : (t : Target) → resolve program up (m ∷ front) ≡ t → resolve program up (m ∷ (front ++ n ∷ [])) ≡ follow (instances program) t (n ∷ [])
       goes t e = resolve-last program up m front n ∙ ap (λ t. follow (instances program) t (n ∷ [])) e
+
       by_definition : (u : List (List ℕ)) (i : Instance) → resolve program up (m ∷ front) ≡ to_instance u → instance_at (instances program) u ≡ Some i → (o : Option Definition) → define_named i n ≡ o → NamedOrNot program up (m ∷ (front ++ n ∷ []))
       by_definition u i e at_u (Some d) h =
           let f = define_found i.up n i.body.parts d h in
           let same : d.up ≡ u = f.of ∙ instance_at-up (instances program) u i at_u in
-          inl (d, inr (record {
-            instance = i;
-            front = m ∷ front;
-            at_front = e ∙ ap to_instance (sym same);
-            at_up = ap (instance_at (instances program)) same ∙ at_u;
-            last = ap (λ l. (m ∷ front) ++ l ∷ []) (sym f.named);
-            defined = ap (define_named i) f.named ∙ h
-          }))
+          inl (
+            d,
+            inr (record {
+              instance = i;
+              front = m ∷ front;
+              at_front = e ∙ ap to_instance (sym same);
+              at_up = ap (instance_at (instances program)) same ∙ at_u;
+              last = ap (λ l. (m ∷ front) ++ l ∷ []) (sym f.named);
+              defined = ap (define_named i) f.named ∙ h;
+            }),
+          )
       by_definition u i e at_u None h = inr (subst IsNoBody (sym (goes (to_instance u) e ∙ follow-one (instances program) u n i at_u)) (member_no_body i.path i.up n i.body.parts to_nothing h tt))
+
       by_instance : (u : List (List ℕ)) → resolve program up (m ∷ front) ≡ to_instance u → (o : Option Instance) → instance_at (instances program) u ≡ o → NamedOrNot program up (m ∷ (front ++ n ∷ []))
       by_instance u e (Some i) at_u = by_definition u i e at_u (define_named i n) refl
       by_instance u e None at_u = inr (subst IsNoBody (sym (goes (to_instance u) e ∙ ap (λ o. elim o as (λ _. Target) [ Some j ↦ member_of j.path j.up n j.body.parts to_nothing | None ↦ to_nothing ]) at_u)) tt)
+
       by_target : (t : Target) → resolve program up (m ∷ front) ≡ t → NamedOrNot program up (m ∷ (front ++ n ∷ []))
       by_target (to_instance u) e = by_instance u e (instance_at (instances program) u) refl
       by_target (to_variable path) e = inr (subst IsNoBody (sym (goes (to_variable path) e)) tt)

@@ -9,11 +9,14 @@ use Rattle.smv_meaning.specs.Names.{Target, to_variable, to_body, to_instance, t
 use Rattle.smv_meaning.specs.Walks.{IsWalk, IsOnCycle}
 use Rattle.smv_meaning.specs.Definitions.{Definition, definitions, names_in, Names, Uses}
 use Rattle.smv_meaning.specs.Cycles.{EachName, Settles, IsSettled, HasDefinitionCycle, IsInstanceName, AreOrdered, IsOrder}
-use Rattle.smv_meaning.proofs.Lists.{contains_only, only_contained, contains_none}
+use Rattle.smv_meaning.specs.FlatTrees.{FlatName, Flat}
+use Rattle.smv_meaning.specs.FlatLines.{Refers, to_slot, to_def, to_name, AreLined, IsLine}
+use Rattle.smv_meaning.proofs.Lists.{contains_only, only_contained, contains_none, slice_get-contained}
 use Rattle.smv_meaning.proofs.FirstNames.{IsNoBody}
 use Rattle.smv_meaning.proofs.Settling.{settles_later}
 use Rattle.smv_meaning.proofs.NamedDefinitions.{Stands, by_body, by_name, named_stands}
 use Rattle.smv_meaning.proofs.NamedOrNot.{named_or_not, named_is_listed}
+use Rattle.smv_meaning.proofs.FlatFits.{fits_refer}
 
 -- from the body of a definition, names lead through fewer bodies than this
 abbrev pub BodySettles : List Body → ℕ → Definition → Type 0
@@ -44,28 +47,43 @@ module _ (program : List Body) where
   abbrev AllSettle : List Definition → Type 0
   AllSettle ds = (d : Definition) → Contains ds d → BodySettles program (suc (length ds)) d
 
-  settle_next : (before : List Definition) (d : Definition) → AllSettle before → ((e : Definition) → Uses program d e → Contains before e) → AllSettle (before ++ d ∷ [])
-  settle_next before d h uses e c =
+  settle_next : (before : List Definition) (d : Definition) → AllSettle before → BodySettles program (suc (suc (length before))) d → AllSettle (before ++ d ∷ [])
+  settle_next before d h last_settles e c =
       subst (λ n. BodySettles program (suc n) e) (sym longer) (by_place (Contains-append_cases before (d ∷ []) e c))
     where
       longer : length (before ++ d ∷ []) ≡ suc (length before)
       longer = rw (length-append before (d ∷ [])) (omega arith)
-      last_settles : BodySettles program (suc (suc (length before))) d
-      last_settles names k =
-          elim (named_or_not program d.around names) [
-            | inl (f, named) ↦ named_settles program (suc (length before)) d.around names f named (h f (uses f (names, k, named)))
-            | inr plain ↦ no_body_settles program (suc (length before)) (resolve program d.around names) plain
-          ]
+
       by_place : Contains before e ⊎ Contains (d ∷ []) e → BodySettles program (suc (suc (length before))) e
       by_place (inl k) = body_settles_later program (suc (length before)) e (h e k)
       by_place (inr k) = subst (BodySettles program (suc (suc (length before)))) (only_contained d e k) last_settles
 
+  -- a definition that uses only those before it
+  user_settles : (before : List Definition) (d : Definition) → AllSettle before → ((e : Definition) → Uses program d e → Contains before e) → BodySettles program (suc (suc (length before))) d
+  user_settles before d h uses names k =
+      elim (named_or_not program d.around names) [
+        | inl (f, named) ↦ named_settles program (suc (length before)) d.around names f named (h f (uses f (names, k, named)))
+        | inr plain ↦ no_body_settles program (suc (length before)) (resolve program d.around names) plain
+      ]
+
   ordered_settle : (before rest : List Definition) → AllSettle before → AreOrdered program before rest → AllSettle (before ++ rest)
   ordered_settle before [] h o = subst AllSettle (sym (append-nil before)) h
-  ordered_settle before (d ∷ ds) h o = subst AllSettle (append_assoc before (d ∷ []) ds) (ordered_settle (before ++ d ∷ []) ds (settle_next before d h o.0) o.1)
+  ordered_settle before (d ∷ ds) h o = subst AllSettle (append_assoc before (d ∷ []) ds) (ordered_settle (before ++ d ∷ []) ds (settle_next before d h (user_settles before d h o.0)) o.1)
 
-  order_settles : (order : List Definition) → IsOrder program order → AllSettle order
-  order_settles order o = ordered_settle [] order (λ d c. absurd (contains_none d c)) o.ordered
+  -- a flat name in the line refers to what settles
+  referred_settles : (before : List Definition) → AllSettle before → (up names : List (List ℕ)) (x : FlatName) → Refers program before up names x → Settles program (suc (suc (length before))) (resolve program up names)
+  referred_settles before h up names _ (to_slot k v at_k e) = subst (Settles program (suc (suc (length before)))) (sym e) tt
+  referred_settles before h up names _ (to_name n e) = subst (Settles program (suc (suc (length before)))) (sym e) tt
+  referred_settles before h up names _ (to_def k d at_k named) = named_settles program (suc (length before)) up names d named (h d (slice_get-contained before k d at_k))
+
+  lined_settle : (before rest : List Definition) (fs : List Flat) → AllSettle before → AreLined program before rest fs → AllSettle (before ++ rest)
+  lined_settle before [] [] h o = subst AllSettle (sym (append-nil before)) h
+  lined_settle before [] (f ∷ fs) h o = absurd o
+  lined_settle before (d ∷ ds) [] h o = absurd o
+  lined_settle before (d ∷ ds) (f ∷ fs) h o =
+      subst AllSettle (append_assoc before (d ∷ []) ds)
+      (lined_settle (before ++ d ∷ []) ds fs
+      (settle_next before d h (λ names k. let r = fits_refer program before d.around d.body f o.0 names k in referred_settles before h d.around names r.0 r.1)) o.1)
 
   -- a name of an instance settles at once
   instance_name_settles : (n : ℕ) (d : Definition) → IsInstanceName program d → BodySettles program (suc n) d
@@ -73,15 +91,23 @@ module _ (program : List Body) where
       let only : i.names ≡ y = only_contained i.names y (subst (λ b. Contains (names_in b) y) i.only c) in
       subst (Settles program (suc n)) (sym i.stands ∙ ap (resolve program d.around) only) tt
 
-  pub ordered_is_settled : (order : List Definition) → IsOrder program order → IsSettled program
-  ordered_is_settled order o up names = (suc (suc (length order)), by_case (named_or_not program up names))
+  -- where all these settle, and all definitions are among them but for names of instances, each path of names comes to an end
+  all_settled : (order : List Definition) → AllSettle order → ((d : Definition) → Contains (definitions program) d → Contains order d ⊎ IsInstanceName program d) → IsSettled program
+  all_settled order h complete up names = (suc (suc (length order)), by_case (named_or_not program up names))
     where
       settles : (d : Definition) → Contains order d ⊎ IsInstanceName program d → BodySettles program (suc (length order)) d
-      settles d (inl c) = order_settles order o d c
+      settles d (inl c) = h d c
       settles d (inr i) = instance_name_settles (length order) d i
+
       by_case : ((d : Definition) × Names program up names d) ⊎ IsNoBody (resolve program up names) → Settles program (suc (suc (length order))) (resolve program up names)
-      by_case (inl (d, named)) = named_settles program (suc (length order)) up names d named (settles d (o.complete d (named_is_listed program up names d named)))
+      by_case (inl (d, named)) = named_settles program (suc (length order)) up names d named (settles d (complete d (named_is_listed program up names d named)))
       by_case (inr plain) = no_body_settles program (suc (length order)) (resolve program up names) plain
+
+  pub ordered_is_settled : (order : List Definition) → IsOrder program order → IsSettled program
+  ordered_is_settled order o = all_settled order (ordered_settle [] order (λ d c. absurd (contains_none d c)) o.ordered) o.complete
+
+  pub lined_is_settled : (defs : List Definition) (bodies : List Flat) → IsLine program defs bodies → IsSettled program
+  lined_is_settled defs bodies l = all_settled defs (lined_settle [] defs bodies (λ d c. absurd (contains_none d c)) l.lined) l.complete
 
 -- a walk goes on by one step
 walk_on : {A : Type 0} (R : A → A → Type 0) (a : A) (xs : List A) (b c : A) → IsWalk R a xs b → R b c → IsWalk R a (xs ++ b ∷ []) c

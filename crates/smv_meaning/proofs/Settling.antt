@@ -54,7 +54,7 @@ module _ (program : List Body) (m : Snapshot) where
   agree_on now other f g (suc n) up names s =
       f up names
       ∙ (same_target (variables program) m now other (resolve program up names)
-        (on_body (λ u e. EachName (λ y. Settles program n (resolve program u y)) e) (λ u e. EachName (λ y. now u y ≡ other u y) e) (resolve program up names) (λ u e h y c. agree_on now other f g n u y (h y c)) s)
+      (on_body (λ u e. EachName (λ y. Settles program n (resolve program u y)) e) (λ u e. EachName (λ y. now u y ≡ other u y) e) (resolve program up names) (λ u e h y c. agree_on now other f g n u y (h y c)) s)
       ∙ sym (g up names))
 
   -- the values of names whose bodies lie one in another fewer times than this

@@ -14,3 +14,6 @@ pub mod Sweeps
 pub mod Marks
 pub mod Counterexamples
 pub mod PartialTraces
+pub mod Rows
+pub mod FlatTrees
+pub mod FlatLines

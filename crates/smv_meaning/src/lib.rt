@@ -7,13 +7,16 @@
 //! definitions.
 
 mod cycles;
+mod flat_lines;
 mod formula_laws;
 mod laws;
 mod one_naming;
+mod rows;
 mod sweep_laws;
 mod trace_laws;
 
 pub use cycles::{ordered_definitions_settle, settled_program_has_no_cycle};
+pub use flat_lines::{flat_values_are_those_of_the_program, line_settles};
 pub use formula_laws::{
     Atoms, limits_past_the_length_agree, operators_are_dual, settled_is_so_on_lassos,
     steps_go_round, truth_is_decided,
@@ -22,6 +25,7 @@ pub use laws::{
     constant_is_its_value, front_of_run_is_run, members_keep_their_order, next_is_one_step,
 };
 pub use one_naming::{each_expression_has_one_list_of_values, each_moment_has_one_naming};
+pub use rows::{instances_have_rows, instances_stand_behind_others};
 pub use sweep_laws::{Sides, one_sweep_decides_what_is_settled, two_sweeps_decide_until};
 pub use trace_laws::{
     less_is_extended_too, refuted_paths_refute_lassos, runs_extend_themselves,
