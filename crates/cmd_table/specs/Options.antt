@@ -8,7 +8,7 @@ use Rattle.cmd_table.specs.declared.fault.OptFault.{OptFault}
 use Rattle.cmd_table.specs.declared.fault.OptFault.TheVariants.{Unknown, NoArgument, Repeated, Excluded, Many, Required}
 use Rattle.cmd_table.specs.declared.fault.OptFault.TheVariants as faults
 use Rattle.cmd_table.specs.declared.given.Given.{Given}
-use Rattle.cmd_table.specs.Words.{text_of_word}
+use Rattle.cmd_table.specs.Words.{text_of_free, text_of_word}
 use Rattle.cmd_table.specs.declared.table.Opt.{Opt}
 use Rattle.cmd_table.specs.declared.table.Table.{Table}
 use Rattle.cmd_table.specs.declared.table.Takes.{Takes}
@@ -164,7 +164,7 @@ fault_among opts least alone free given =
 -- the answer to what is given in all
 abbrev pub checked : {N : ℕ} → Table N → Given → Result Given OptFault
 checked table given =
-    option_map_or (λ fault. Err fault) (fault_among table.opts table.least table.alone table.free.now given) (Ok given)
+    option_map_or (λ fault. Err fault) (fault_among table.opts table.least table.alone (text_of_free table.free) given) (Ok given)
 
 -- the answer to what the words gave, or to the first wrong one
 abbrev pub ended : {N : ℕ} → Table N → Result Given OptFault → Result Given OptFault

@@ -13,7 +13,7 @@ pub fn check(
     opts: &[Opt],
     least: u32,
     alone: u32,
-    free: &str,
+    free: &[u8],
     given: &Given,
 ) -> Result<(), OptFault>
     ensures { Finds (fault_among opts.now least alone free.now given.now) result }
@@ -51,7 +51,7 @@ fn check_missing(
     alloc: Global,
     opts: &[Opt],
     least: u32,
-    free: &str,
+    free: &[u8],
     given: &Given,
 ) -> Result<(), OptFault>
     ensures { Finds (missing_of opts.now least free.now given.now) result }
@@ -60,7 +60,7 @@ fn check_missing(
         Some(i) => Err(OptFault::Required(word_at(alloc, opts, i)?)),
         None => {
             if given.rest.len() < least as usize {
-                return Err(OptFault::Required(Text::from_slice(alloc, free.as_bytes())?));
+                return Err(OptFault::Required(Text::from_slice(alloc, free)?));
             }
             Ok(())
         }

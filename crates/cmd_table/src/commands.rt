@@ -2,7 +2,7 @@
 ghost use Rattle.std.specs.Prelude.{IsTrue};
 ghost use Rattle.cmd_table.specs.Distinct.{is_sound};
 
-use crate::{Opt, OptWord, Table, Takes};
+use crate::{FreeWord, Opt, OptWord, Table, Takes};
 
 // An option that may be left out, by its word: one that takes nothing, one that takes a word, and one
 // that takes a number from the first to the last. Then, the bits of the options that it excludes.
@@ -39,7 +39,7 @@ pub const READ_MODEL: Table<1> = Table {
     least: 0,
     most: 0,
     alone: 0,
-    free: "",
+    free: FreeWord::Nothing,
     raw: false,
 };
 
@@ -49,7 +49,7 @@ pub const FLATTEN_HIERARCHY: Table<0> = Table {
     least: 0,
     most: 0,
     alone: 0,
-    free: "",
+    free: FreeWord::Nothing,
     raw: false,
 };
 
@@ -83,7 +83,7 @@ pub const CHECK_LTLSPEC_BMC: Table<5> = Table {
     least: 0,
     most: 0,
     alone: 0,
-    free: "",
+    free: FreeWord::Nothing,
     raw: false,
 };
 
@@ -99,7 +99,7 @@ pub const BMC_PICK_STATE: Table<2> = Table {
     least: 0,
     most: 0,
     alone: 0,
-    free: "",
+    free: FreeWord::Nothing,
     raw: false,
 };
 
@@ -115,7 +115,7 @@ pub const BMC_SIMULATE: Table<5> = Table {
     least: 0,
     most: 0,
     alone: 0,
-    free: "",
+    free: FreeWord::Nothing,
     raw: false,
 };
 
@@ -128,7 +128,7 @@ pub const GOTO_STATE: Table<0> = Table {
     least: 1,
     most: 1,
     alone: 0,
-    free: "t.s",
+    free: FreeWord::State,
     raw: false,
 };
 
@@ -138,7 +138,7 @@ pub const PRINT_CURRENT_STATE: Table<1> = Table {
     least: 0,
     most: 0,
     alone: 0,
-    free: "",
+    free: FreeWord::Nothing,
     raw: false,
 };
 
@@ -153,7 +153,7 @@ pub const SHOW_TRACES: Table<4> = Table {
     least: 0,
     most: 1,
     alone: 1 << 0 | 1 << 1,
-    free: "t[.s[:e]]",
+    free: FreeWord::States,
     raw: false,
 };
 
@@ -163,7 +163,7 @@ pub const READ_TEXT_TRACE: Table<2> = Table {
     least: 1,
     most: 1,
     alone: 0,
-    free: "file",
+    free: FreeWord::File,
     raw: false,
 };
 
@@ -173,7 +173,7 @@ pub const EXECUTE_TEXT_TRACE: Table<1> = Table {
     least: 1,
     most: 1,
     alone: 0,
-    free: "file",
+    free: FreeWord::File,
     raw: false,
 };
 
@@ -191,7 +191,7 @@ pub const EXECUTE_TRACES: Table<2> = Table {
     least: 0,
     most: 1,
     alone: 1 << 1,
-    free: "t",
+    free: FreeWord::Trace,
     raw: false,
 };
 
@@ -204,7 +204,7 @@ pub const WRITE_LOG: Table<0> = Table {
     least: 1,
     most: 1,
     alone: 0,
-    free: "file",
+    free: FreeWord::File,
     raw: false,
 };
 
@@ -220,7 +220,7 @@ pub const SET: Table<0> = Table {
     least: 0,
     most: 2,
     alone: 0,
-    free: "name",
+    free: FreeWord::Name,
     raw: true,
 };
 
@@ -230,7 +230,7 @@ pub const UNSET: Table<0> = Table {
     least: 1,
     most: 1,
     alone: 0,
-    free: "name",
+    free: FreeWord::Name,
     raw: false,
 };
 
@@ -240,7 +240,7 @@ pub const ALIAS: Table<0> = Table {
     least: 0,
     most: u32::MAX,
     alone: 0,
-    free: "name",
+    free: FreeWord::Name,
     raw: true,
 };
 
@@ -253,7 +253,7 @@ pub const SOURCE: Table<3> = Table {
     least: 1,
     most: 1,
     alone: 0,
-    free: "file",
+    free: FreeWord::File,
     raw: false,
 };
 
@@ -263,7 +263,7 @@ pub const HISTORY: Table<0> = Table {
     least: 0,
     most: 1,
     alone: 0,
-    free: "n",
+    free: FreeWord::Count,
     raw: false,
 };
 
@@ -273,7 +273,7 @@ pub const ECHO: Table<3> = Table {
     least: 0,
     most: u32::MAX,
     alone: 0,
-    free: "words",
+    free: FreeWord::Words,
     raw: false,
 };
 
@@ -283,7 +283,7 @@ pub const HELP: Table<0> = Table {
     least: 0,
     most: 1,
     alone: 0,
-    free: "command",
+    free: FreeWord::Command,
     raw: false,
 };
 

@@ -18,7 +18,7 @@ pub use fault::OptFault;
 pub use given::{Given, OptTexts};
 pub use read::read_options;
 pub use table::{Opt, Table, Takes};
-pub use word::OptWord;
+pub use word::{FreeWord, OptWord};
 
 #[cfg(test)]
 mod tests;

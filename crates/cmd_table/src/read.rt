@@ -1,5 +1,6 @@
-ghost use Rattle.std.specs.Prelude.{◌≡◌, ◌⊎◌, length, Result, Err, alloc_error};
+ghost use Rattle.std.specs.Prelude.{◌≡◌, ◌⊎◌, length, IfOk, Result, Err, alloc_error};
 ghost use Rattle.cmd_table.specs.Fault.{Answers};
+ghost use Rattle.cmd_table.specs.Fitting.{AllFit};
 ghost use Rattle.cmd_table.specs.Options.{Options, Reads, nothing};
 ghost use Rattle.cmd_table.specs.declared.fault.OptFault.{OptFault};
 ghost use Rattle.cmd_table.specs.declared.fault.OptFault.TheVariants.{NoMemory};
@@ -26,10 +27,18 @@ pub fn read_options<const N: usize>(
 ) -> Result<Given, OptFault>
     ensures right { Options table.now words.now result ⊎ (result ≡ Err (NoMemory alloc_error)) }
     ensures only { (answer : Result Given OptFault) → Options table.now words.now answer → Answers answer result }
+    ensures fit { IfOk result (λ given. AllFit table.now.opts given.values) }
 {
     let opts = table.opts.as_slice();
     let given = read_words(alloc, opts, table.most, table.raw, words.as_slice())?;
-    check(alloc, opts, table.least, table.alone, table.free, &given)?;
+    check(
+        alloc,
+        opts,
+        table.least,
+        table.alone,
+        table.free.text(),
+        &given,
+    )?;
     Ok(given)
 }
 

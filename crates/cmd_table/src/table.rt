@@ -1,4 +1,4 @@
-use crate::OptWord;
+use crate::{FreeWord, OptWord};
 
 /// What an option takes.
 #[derive(Clone, Copy, Debug)]
@@ -36,7 +36,7 @@ pub struct Table<const N: usize> {
     /// Bit `i` says that no free word may stand beside option `i`.
     pub alone: u32,
     /// What a free word is called where one is missing.
-    pub free: &'static str,
+    pub free: FreeWord,
     /// Whether each word after the first free one is free as it stands.
     pub raw: bool,
 }

@@ -1,5 +1,5 @@
 use crate::commands::*;
-use crate::{Given, Opt, OptFault, OptWord, Table, Takes, read_options};
+use crate::{FreeWord, Given, Opt, OptFault, OptWord, Table, Takes, read_options};
 use outside::{MemSink, Text, Words};
 use std::alloc::{AllocError, Global};
 use std::process::Abort;
@@ -41,7 +41,7 @@ const ALL: Table<5> = Table {
     least: 1,
     most: 2,
     alone: 1 << 4,
-    free: "file",
+    free: FreeWord::File,
     raw: false,
 };
 

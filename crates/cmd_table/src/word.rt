@@ -61,3 +61,47 @@ impl OptWord {
         }
     }
 }
+
+/// What a free word is called where one is missing. A table holds these as plain data too.
+#[derive(Clone, Copy, Debug)]
+pub enum FreeWord {
+    /// There is none.
+    Nothing,
+    /// `t.s`
+    State,
+    /// `t[.s[:e]]`
+    States,
+    /// `file`
+    File,
+    /// `t`
+    Trace,
+    /// `name`
+    Name,
+    /// `n`
+    Count,
+    /// `words`
+    Words,
+    /// `command`
+    Command,
+}
+
+impl FreeWord {
+    ghost use Rattle.cmd_table.specs.Words.{text_of_free};
+
+    /// The name as it is written.
+    pub fn text(self) -> &'static [u8]
+        ensures { result.now ≡ text_of_free self }
+    {
+        match self {
+            FreeWord::Nothing => b"",
+            FreeWord::State => b"t.s",
+            FreeWord::States => b"t[.s[:e]]",
+            FreeWord::File => b"file",
+            FreeWord::Trace => b"t",
+            FreeWord::Name => b"name",
+            FreeWord::Count => b"n",
+            FreeWord::Words => b"words",
+            FreeWord::Command => b"command",
+        }
+    }
+}

@@ -1,7 +1,6 @@
-ghost use Rattle.std.specs.Prelude.{◌≡◌, []};
+ghost use Rattle.std.specs.Prelude.{◌≡◌};
 ghost use Rattle.outside.specs.Told.{HasRisen};
-ghost use Rattle.outside.specs.Disk.{ReadsFile};
-ghost use Rattle.nusat.specs.Untold.{untold};
+ghost use Rattle.nusat.specs.Untold.{IsWithin, untold};
 
 use crate::retry::{read_some, write_some};
 use outside::{Failed, FileFault, Files, Text};
@@ -48,11 +47,14 @@ impl<R: rt::Files + Drop> Files for SystemFiles<R> {
     ghost told = { λ s. untold s };
 
     fn read_all(&mut self, alloc: Global, name: &Text, limit: usize) -> Result<Text, FileFault> {
-        let read = read_file(&self.system, alloc, name.as_slice(), limit);
-        if !matches!(&read, Ok(_) | Err(FileFault::NoMemory(_))) {
-            self.raise();
+        match read_file(&self.system, alloc, name.as_slice(), limit) {
+            Ok(bytes) => Ok(bytes),
+            Err(FileFault::NoMemory(e)) => Err(FileFault::NoMemory(e)),
+            Err(fault) => {
+                self.raise();
+                Err(fault)
+            }
         }
-        read
     }
 
     fn write_all(&mut self, _alloc: Global, name: &Text, bytes: &[u8]) -> Result<(), FileFault> {
@@ -65,14 +67,13 @@ impl<R: rt::Files + Drop> Files for SystemFiles<R> {
 }
 
 /// Reads a file, and no further than the limit and one byte. A name that is not UTF-8 is a fault.
-/// The clause is that of a store that tells nothing and counts one fault more.
 fn read_file<R: rt::Files>(
     system: &R,
     alloc: Global,
     name: &[u8],
     limit: usize,
 ) -> Result<Text, FileFault>
-    ensures { ReadsFile limit name.now (untold 0) result (untold 1) }
+    ensures { IsWithin limit result }
 {
     let Ok(path) = str::from_utf8(name) else {
         return Err(FileFault::Failed);
@@ -87,7 +88,7 @@ fn read_file<R: rt::Files>(
 
 /// Reads to the end, and no further than the limit and one byte.
 fn read_up_to<R: Read>(file: &mut R, alloc: Global, limit: usize) -> Result<Text, FileFault>
-    ensures { ReadsFile limit [] (untold 0) result (untold 1) }
+    ensures { IsWithin limit result }
 {
     let mut bytes = Text::new(alloc);
     let mut piece = [0u8; PIECE];

@@ -12,12 +12,12 @@ mod source;
 mod tests;
 
 use files::SystemFiles;
-use outside::{Text, Words};
+use outside::{Text, Words, put_all};
 use shell::run_shell;
 use sink::StreamSink;
 use source::StreamSource;
 use std::alloc::Global;
-use std::io::{ErrorKind, Lock, Read, Write};
+use std::io::{ErrorKind, IsTerminal, Lock, Read, Write};
 use std::marker::Brand;
 use std::process::ExitCode;
 use std::sync::ledger::{Blank, Ledger};
@@ -63,6 +63,7 @@ fn run<R: rt::Files + Drop, I: Read + Drop, O: Write + Drop, E: Write + Drop, L:
     words: &Words,
     system: R,
     streams: (I, O, E),
+    at_terminal: bool,
     blank: Blank,
 ) -> io::Result<u8>
     requires name { blank.name ≡ L.name }
@@ -70,14 +71,19 @@ fn run<R: rt::Files + Drop, I: Read + Drop, O: Write + Drop, E: Write + Drop, L:
     requires some { 0 < blank.parts }
 {
     let (input, out, err) = streams;
+    let prompts = has_prompts(words);
     let mut input = StreamSource::new(alloc, input)?;
     let mut files = SystemFiles::new(system);
-    let mut out = StreamSink::new(alloc, out, has_prompts(words))?;
+    let mut out = StreamSink::new(alloc, out, prompts)?;
     let mut err = StreamSink::new(alloc, err, true)?;
     let mut steps: Steps<L> = Steps::new(blank);
     let status = run_shell(
         alloc, words, &mut input, &mut files, &mut out, &mut err, &mut steps,
     );
+    // Where Ctrl-D ends the input, the cursor stands behind a prompt.
+    if at_terminal && prompts && input.has_ended() && put_all(&mut out, b"\n").is_err() {
+        return Ok(SINK_FAILED);
+    }
     Ok(match out.flush() {
         Ok(()) => status,
         Err(_) => SINK_FAILED,
@@ -87,9 +93,17 @@ fn run<R: rt::Files + Drop, I: Read + Drop, O: Write + Drop, E: Write + Drop, L:
 /// Runs the session, or says why it can't begin, and answers the status.
 fn main(rt: HostRuntime) -> ExitCode {
     let alloc = rt.alloc();
+    let at_terminal = rt.stdin().is_terminal();
     let streams = (rt.stdin().lock(), rt.stdout().lock(), rt.stderr().lock());
     let status = match read_words(&rt) {
-        Ok(words) => run::<_, _, _, _, Brand>(alloc, &words, &rt, streams, Blank::new(1)),
+        Ok(words) => run::<_, _, _, _, Brand>(
+            alloc,
+            &words,
+            &rt,
+            streams,
+            at_terminal,
+            Blank::new(1),
+        ),
         Err(e) => Err(e),
     };
     ExitCode::from(match status {

@@ -1,4 +1,4 @@
-ghost use Rattle.std.specs.Prelude.{◌≡◌, ◌≤◌, IfOk, OnOk, OnErr};
+ghost use Rattle.std.specs.Prelude.{◌≡◌, IfOk, OnOk, OnErr};
 ghost use Rattle.outside.specs.Told.{HasRisen};
 
 use crate::retry::write_some;
@@ -50,7 +50,6 @@ impl<W: Write + Drop> StreamSink<W> {
     pub fn flush(&mut self) -> Result<(), Failed>
         ensures ok { OnOk result (self.new ≡ self.old) }
         ensures cause { OnErr result (HasRisen self.old self.new) }
-        ensures count { self.old ≤ self.new }
     {
         match self.writer.flush() {
             Ok(()) => Ok(()),
@@ -62,7 +61,6 @@ impl<W: Write + Drop> StreamSink<W> {
     fn fail<T>(&mut self) -> Result<T, Failed>
         ensures none { OnOk result ⊥ }
         ensures cause { HasRisen self.old self.new }
-        ensures count { self.old ≤ self.new }
     {
         self.faults = self.faults.saturating_add(1);
         Err(Failed)

@@ -15,6 +15,7 @@ const AHEAD: usize = 65_536;
 pub struct StreamSource<R: Read + Drop> {
     reader: BufReader<R>,
     faults: u64,
+    ended: bool,
 }
 
 impl<R: Read + Drop> Model for StreamSource<R> {
@@ -37,7 +38,13 @@ impl<R: Read + Drop> StreamSource<R> {
         Ok(StreamSource {
             reader: BufReader::with_capacity(alloc, AHEAD, reader)?,
             faults: 0,
+            ended: false,
         })
+    }
+
+    /// Whether a read has come to the end of the input.
+    pub fn has_ended(&self) -> bool {
+        self.ended
     }
 }
 
@@ -48,7 +55,10 @@ impl<R: Read + Drop> Source for StreamSource<R> {
 
     fn read(&mut self, buf: &mut [u8]) -> Result<usize, Failed> {
         match read_some(&mut self.reader, buf) {
-            Ok(count) => Ok(count),
+            Ok(count) => {
+                self.ended = count == 0 && !buf.is_empty();
+                Ok(count)
+            }
             Err(_) => {
                 self.faults = self.faults.saturating_add(1);
                 Err(Failed)

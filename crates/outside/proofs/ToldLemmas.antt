@@ -1,5 +1,5 @@
 -- Laws of what an object tells.
-use Rattle.std.proofs.Common.{◌≡◌, ◌≢◌, ◌+◌, ◌≤◌, ℕ, List, [], ◌∷◌, ◌++◌, take, drop, length, refl, ap, sym, ◌∙◌, append_assoc, arith, length-append}
+use Rattle.std.proofs.Common.{◌≡◌, ◌≢◌, ◌+◌, ◌<◌, ℕ, List, [], ◌∷◌, ◌++◌, take, drop, length, refl, ap, sym, ◌∙◌, append_assoc, arith, length-append}
 use Rattle.std.specs.Prelude.{Option, Some, None}
 use Rattle.std.specs.Io.KnownBytes.{append_known, prepend_known}
 use Rattle.std.proofs.lemmas.Grind.{common_steps}
@@ -35,7 +35,7 @@ pub taken_past : (before mid after : Option (List ℕ)) (line : List ℕ) (b lim
 taken_past before mid after line b limit free other full e d =
     (line ++ b ∷ [], one_line_more line b free other, omega (arith, length-append line (b ∷ [])), e ∙ (ap (prepend_known line) d ∙ prepend_known-twice after line (b ∷ [])))
 
--- a byte more was taken, within one more than the limit
-pub taken_front : (before mid after : Option (List ℕ)) (line : List ℕ) (b limit : ℕ) → IsOneLine line → b ≢ 10 → length line ≤ limit → before ≡ prepend_known line mid → mid ≡ prepend_known (b ∷ []) after → TakesFront (limit + 1) before after
+-- a byte more was taken, within the limit
+pub taken_front : (before mid after : Option (List ℕ)) (line : List ℕ) (b limit : ℕ) → IsOneLine line → b ≢ 10 → length line < limit → before ≡ prepend_known line mid → mid ≡ prepend_known (b ∷ []) after → TakesFront limit before after
 taken_front before mid after line b limit free other full e d =
     (line ++ b ∷ [], one_line_more line b free other, omega (arith, length-append line (b ∷ [])), e ∙ (ap (prepend_known line) d ∙ prepend_known-twice after line (b ∷ [])))

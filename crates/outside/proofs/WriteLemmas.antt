@@ -1,5 +1,5 @@
 -- Texts that are written one after another.
-use Rattle.std.proofs.Common.{◌≡◌, ◌≤◌, ℕ, List, [], ◌∷◌, ◌++◌, ◌+◌, ◌<◌, ap, drop, get_or, length, refl, subst, sym, take, ◌∙◌, append_assoc, arith}
+use Rattle.std.proofs.Common.{◌≡◌, ◌≤◌, ℕ, List, [], ◌∷◌, ◌++◌, ◌+◌, ◌<◌, ap, drop, get_or, length, refl, subst, sym, take, ◌∙◌, append_assoc}
 use Rattle.std.specs.Prelude.{None, flat_map, Option, Result, Some, Ok, Err}
 use Rattle.std.specs.Result.{IsErrAnd}
 use Rattle.std.specs.Io.KnownBytes.{append_known}
@@ -7,7 +7,7 @@ use Rattle.std.proofs.lemmas.List.{append-nil, take-append-drop, take_all, take_
 use Rattle.std.proofs.lemmas.Grind.{flat_map-append}
 use Rattle.std.proofs.lemmas.Result.{err_from_is_err_and, on_err_weaker, on_ok_weaker}
 use Rattle.outside.specs.declared.Failed.{Failed}
-use Rattle.outside.specs.Told.{AddsFront, HasRisen, Output, Writes}
+use Rattle.outside.specs.Told.{AddsFront, HasRisen, Output, Writes, one_more}
 use Rattle.outside.proofs.ToldLemmas.{append_known-twice}
 
 -- a text was added and then another
@@ -29,9 +29,9 @@ pub nothing_added : (told : Option (List ℕ)) → told ≡ append_known told []
 nothing_added None = refl
 nothing_added (Some old) = ap Some (sym (append-nil old))
 
--- a fault since a moment is one since an earlier moment
-pub risen_later : (before mid after : ℕ) → before ≤ mid → HasRisen mid after → HasRisen before after
-risen_later before mid after h r = omega arith
+-- a fault behind calls that did not fail is the first
+pub risen_later : (before mid after : ℕ) → mid ≡ before → HasRisen mid after → HasRisen before after
+risen_later before mid after quiet risen = risen ∙ ap one_more quiet
 
 -- all of the bytes were written, as loops that write say it of what they have done
 abbrev pub HasWritten : List ℕ → Output → Output → Type 0
@@ -39,15 +39,15 @@ HasWritten bytes old new = Writes bytes old (Ok (tt {0})) new
 
 -- nothing was written
 pub writes_none : {X : Type 0} (x : X) (old : Output) → Writes [] old (Ok x) old
-writes_none x old = record { ok = nothing_added old.written; err = _; cause = _; count = omega arith }
+writes_none x old = record { ok = nothing_added old.written; err = _; quiet = refl; cause = _ }
 
 -- two writes in sequence are one of the joined text
 pub writes_then : {X Y : Type 0} {x : X} {r : Result Y Failed} {old mid new : Output} {a b : List ℕ} → Writes a old (Ok x) mid → Writes b mid r new → Writes (a ++ b) old r new
 writes_then {r = r} {old = old} {mid = mid} {new = new} {a = a} {b = b} v w = record {
   ok = on_ok_weaker r (added_both old.written mid.written new.written a b v.ok) w.ok;
   err = on_err_weaker r (added_front old.written mid.written new.written a b v.ok) w.err;
-  cause = on_err_weaker r (risen_later old.faults mid.faults new.faults v.count) w.cause;
-  count = omega (arith, v.count, w.count);
+  quiet = on_ok_weaker r (λ quiet. quiet ∙ v.quiet) w.quiet;
+  cause = on_err_weaker r (risen_later old.faults mid.faults new.faults v.quiet) w.cause;
 }
 
 -- a write that stopped is one of any longer text
@@ -55,8 +55,8 @@ pub writes_stopped : {X : Type 0} {f : Failed} {old new : Output} {a : List ℕ}
 writes_stopped {old = old} {new = new} {a = a} b w = record {
   ok = w.ok;
   err = front_more old.written new.written a b w.err;
+  quiet = w.quiet;
   cause = w.cause;
-  count = w.count;
 }
 
 -- the same text, put otherwise
@@ -67,7 +67,7 @@ writes_as {r = r} {old = old} {new = new} e w = subst (λ text. Writes text old 
 pub writes_returned : {X Y : Type 0} {f : Failed} {old new : Output} {a : List ℕ} (Q : Failed → Type 0) (r : Result Y Failed) → IsErrAnd r Q → Writes {X = X} a old (Err f) new → Writes a old r new
 writes_returned {Y = Y} {old = old} {new = new} {a = a} Q r q w =
     let p = err_from_is_err_and r q in
-    let v : Writes {X = Y} a old (Err p.0) new = record { ok = _; err = w.err; cause = w.cause; count = w.count } in
+    let v : Writes {X = Y} a old (Err p.0) new = record { ok = _; err = w.err; quiet = _; cause = w.cause } in
     subst (λ s. Writes a old s new) (sym p.1) v
 
 -- the texts of the items up to one more place

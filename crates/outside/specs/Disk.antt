@@ -13,10 +13,10 @@ abbrev pub IfTold : Option (List ℕ → Option (List ℕ)) → List ℕ → (Op
 IfTold None name P = ⊤
 IfTold (Some held) name P = P (held name)
 
--- a refusal is what the store tells, or, where it tells nothing, the count of its faults rose
+-- a refusal is what the store tells, without a fault, or, where it tells nothing, a fault
 abbrev pub Refuses : Option (List ℕ → Option (List ℕ)) → List ℕ → ℕ → ℕ → (Option (List ℕ) → Type 0) → Type 0
 Refuses None name before after P = HasRisen before after
-Refuses (Some held) name before after P = P (held name) × (before ≤ after)
+Refuses (Some held) name before after P = P (held name) × (after ≡ before)
 
 -- the file is there and longer than the limit
 abbrev pub IsLonger : ℕ → Option (List ℕ) → Type 0
@@ -24,11 +24,11 @@ IsLonger limit file = (bytes : List ℕ) × (file ≡ Some bytes) × (limit < le
 
 -- what a read of a whole file of at most so many bytes answers
 abbrev pub ReadsFile : ℕ → List ℕ → Disk → Result (List ℕ) FileFault → Disk → Type 0
-ReadsFile limit name old (Ok bytes) new = IfTold old.held name (λ file. file ≡ Some bytes) × (length bytes ≤ limit) × (old.faults ≤ new.faults)
+ReadsFile limit name old (Ok bytes) new = IfTold old.held name (λ file. file ≡ Some bytes) × (length bytes ≤ limit) × (new.faults ≡ old.faults)
 ReadsFile limit name old (Err fault.NotThere) new = Refuses old.held name old.faults new.faults (λ file. file ≡ None)
 ReadsFile limit name old (Err (fault.TooLong n)) new = Refuses old.held name old.faults new.faults (IsLonger limit) × (n ≡ limit + 1)
 ReadsFile limit name old (Err fault.Failed) new = HasRisen old.faults new.faults
-ReadsFile limit name old (Err (fault.NoMemory e)) new = old.faults ≤ new.faults
+ReadsFile limit name old (Err (fault.NoMemory e)) new = new.faults ≡ old.faults
 
 -- each file but this one holds what it held
 abbrev pub KeepsOthers : List ℕ → (List ℕ → Option (List ℕ)) → (List ℕ → Option (List ℕ)) → Type 0
@@ -47,8 +47,8 @@ BreaksOff name bytes (Some old) new = (held : List ℕ → Option (List ℕ)) ×
 
 -- what a write of a whole file answers and leaves
 abbrev pub WritesFile : List ℕ → List ℕ → Disk → Result (Unit {0}) FileFault → Disk → Type 0
-WritesFile name bytes old (Ok u) new = Stores name bytes old.held new.held × (old.faults ≤ new.faults)
+WritesFile name bytes old (Ok u) new = Stores name bytes old.held new.held × (new.faults ≡ old.faults)
 WritesFile name bytes old (Err fault.Failed) new = BreaksOff name bytes old.held new.held × HasRisen old.faults new.faults
-WritesFile name bytes old (Err (fault.NoMemory e)) new = BreaksOff name bytes old.held new.held × (old.faults ≤ new.faults)
+WritesFile name bytes old (Err (fault.NoMemory e)) new = BreaksOff name bytes old.held new.held × (new.faults ≡ old.faults)
 WritesFile name bytes old (Err fault.NotThere) new = ⊥
 WritesFile name bytes old (Err (fault.TooLong n)) new = ⊥

@@ -27,12 +27,12 @@ Reads limit before (Ok line.End) after = (after ≡ before) × IfSome before (λ
 Reads limit before (Ok (line.Line text)) after = IsOneLine text × (length text ≤ limit) × TakesLine before text after
 Reads limit before (Err TooLong) after = (front : List ℕ) × IsOneLine front × (length front ≡ limit + 1) × (before ≡ prepend_known front after)
 Reads limit before (Err ReadFault) after = TakesFront limit before after
-Reads limit before (Err (NoMemory e)) after = TakesFront (limit + 1) before after
+Reads limit before (Err (NoMemory e)) after = TakesFront limit before after
 
--- only a fault of the source is answered as one, and the count of faults never falls
+-- a fault of the source is answered, and nothing else is answered after one
 abbrev pub HasCause : ℕ → ℕ → Result Line LineFault → Type 0
 HasCause before after (Err ReadFault) = HasRisen before after
-HasCause before after _ = before ≤ after
+HasCause before after _ = after ≡ before
 
 -- what a read of a line of at most so many bytes answers and leaves, and why it failed
 pub record ReadsLine (limit : ℕ) (old : Input) (result : Result Line LineFault) (new : Input) : Type 0 where

@@ -1,18 +1,14 @@
 -- What the objects in memory hold, and which of their calls fail.
-use Rattle.std.specs.Prelude.{◌+◌, ◌==◌, ℕ, Bool, false, List, [], ◌∷◌, Option, Some, None, if◌then◌else◌, min}
+use Rattle.std.specs.Prelude.{◌==◌, ℕ, Bool, false, List, [], ◌∷◌, Option, Some, None, if◌then◌else◌}
 use Rattle.std.specs.List.{list_any}
 use Rattle.std.specs.Str.{bytes_eq}
-use Rattle.outside.specs.Told.{Disk, Input, Output}
+use Rattle.outside.specs.Told.{Disk, Input, Output, one_more}
 
 -- the calls of an object: how many were made, which are to fail, counted from 1, and how many did
 pub record Calls : Type 0 where
   pub made : ℕ
   pub failing : List ℕ
   pub faults : ℕ
-
--- one more, up to the last value of 64 bits
-abbrev pub one_more : ℕ → ℕ
-one_more count = min (count + 1) 18446744073709551615
 
 -- the next call is one of those that are to fail
 abbrev pub fails_next : Calls → Bool

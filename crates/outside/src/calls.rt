@@ -1,6 +1,7 @@
-ghost use Rattle.std.specs.Prelude.{◌≡◌, ◌==◌, ◌≤◌, IfOk, is_err};
+ghost use Rattle.std.specs.Prelude.{◌≡◌, ◌==◌, IfOk, is_err};
 ghost use Rattle.std.specs.List.{list_any};
-ghost use Rattle.outside.specs.Memory.{counted, fails_next, one_more};
+ghost use Rattle.outside.specs.Memory.{counted, fails_next};
+ghost use Rattle.outside.specs.Told.{one_more};
 
 use crate::Failed;
 use std::alloc::{AllocError, Global};
@@ -44,7 +45,6 @@ impl Calls {
     pub(crate) fn make(&mut self) -> Result<(), Failed>
         ensures fails { is_err result ≡ fails_next self.old }
         ensures counted { self.new ≡ counted (is_err result) self.old }
-        ensures grows { self.old.faults ≤ self.new.faults }
     {
         self.made = self.made.saturating_add(1);
         if has_number(self.failing.as_slice(), self.made) {
@@ -57,7 +57,6 @@ impl Calls {
     /// Counts a fault of the call that was made last.
     pub(crate) fn fail(&mut self)
         ensures counted { self.new ≡ record self.old { faults = one_more self.old.faults } }
-        ensures grows { self.old.faults ≤ self.new.faults }
     {
         self.faults = self.faults.saturating_add(1);
     }

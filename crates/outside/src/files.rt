@@ -19,8 +19,7 @@ pub enum FileFault {
 
 /// Files by name.
 pub trait Files {
-    /// What each file holds, by its name, if the store tells it, and how often the store has failed, a
-    /// count that never falls.
+    /// What each file holds, by its name, if the store tells it, and how often the store has failed.
     ghost told: { Self → Disk };
 
     /// The bytes of a file. No file is changed.

@@ -3,8 +3,8 @@
 //! files.
 //!
 //! Three traits say what a reader, a writer and a file store promise. What an object tells of its
-//! contents, and its count of faults, are one ghost member of its trait, `told`. A fault is answered
-//! only where the object's own count of faults rose. Each call that writes has one clause, `Writes`.
+//! contents, and its count of faults, are one ghost member of its trait, `told`. The count rises by one
+//! with a fault that is answered, and by nothing else. Each call that writes has one clause, `Writes`.
 //! Objects in memory meet the traits for tests.
 
 mod calls;

@@ -5,8 +5,8 @@ use crate::Failed;
 
 /// Where text goes.
 pub trait Sink {
-    /// What was written so far, if the sink tells it, and how often a write has failed, a count that
-    /// never falls.
+    /// What was written so far, if the sink tells it, and how often a write has
+    /// failed.
     ghost told: { Self → Output };
 
     /// Writes a front of the bytes, and answers its length. It takes at least one of them, if there

@@ -1,4 +1,4 @@
-ghost use Rattle.std.specs.Prelude.{◌≡◌, ◌≢◌, ◌≤◌, [], ◌∷◌, IfOk, IfSome, IfNone, IsSome, OnErr};
+ghost use Rattle.std.specs.Prelude.{◌≡◌, ◌≢◌, [], ◌∷◌, IfOk, IfSome, IfNone, IsSome, OnErr, OnOk};
 ghost use Rattle.std.specs.Io.KnownBytes.{prepend_known};
 ghost use Rattle.outside.specs.Told.{Fills, HasRisen, Input, Writes};
 ghost use Rattle.outside.specs.Lines.{ReadsLine, fault_number, fault_text};
@@ -9,8 +9,8 @@ use std::alloc::{AllocError, Global};
 
 /// Where input comes from.
 pub trait Source {
-    /// The bytes that are still to come, if the source tells them, and how often a read has failed, a
-    /// count that never falls.
+    /// The bytes that are still to come, if the source tells them, and how often a read has
+    /// failed.
     ghost told: { Self → Input };
 
     /// Reads bytes into the front of the buffer, and answers how many. Zero for a buffer that has
@@ -86,7 +86,7 @@ fn read_byte<S: Source>(from: &mut S) -> Result<Option<u8>, Failed>
     ensures more { IfOk result (λ found. IsSome found → IfSome (S.told from.old).left (λ bytes. bytes ≢ [])) }
     ensures err { OnErr result ((S.told from.new).left ≡ (S.told from.old).left) }
     ensures cause { OnErr result (HasRisen (S.told from.old).faults (S.told from.new).faults) }
-    ensures count { (S.told from.old).faults ≤ (S.told from.new).faults }
+    ensures quiet { OnOk result ((S.told from.new).faults ≡ (S.told from.old).faults) }
 {
     let mut byte = [0u8; 1];
     let read = from.read(&mut byte)?;

@@ -12,12 +12,13 @@ use Rattle.sat_log.specs.Checking.{IsUpTo, AreUpTo}
 use Rattle.sat_log.specs.declared.line.LineKind.{LineKind}
 use Rattle.sat_log.specs.declared.line.LineKind.TheVariants.{Conflict, Final}
 use Rattle.sat_log.specs.declared.line.LogLine.{LogLine}
+use Rattle.sat_log.proofs.ListLemmas.{All-append}
+use Rattle.sat_log.proofs.LiteralLemmas.{All-among}
 use Rattle.sat_core.specs.Trail.{Trailed, literals, top, before}
 use Rattle.sat_core.specs.Units.{HasCause, AreDecided, IsTrail, IsQuiet, AreQuiet, MissesNoUnit}
 use Rattle.sat_core.specs.Analysis.{Analyzed, IsAnalysis, IsAsserting, IsAsserted, AreNegationsOf}
 use Rattle.sat_core.specs.Search.{KeepsSearch, AreAmong, AskedFirst, AddsLearned, AddsFinal, IsJump}
-use Rattle.sat_core.proofs.Literals.{All-among}
-use Rattle.sat_core.proofs.Logs.{All-append, named_up_to, clauses_push}
+use Rattle.sat_core.proofs.Logs.{named_up_to, clauses_push}
 use Rattle.sat_core.proofs.Trails.{consistent}
 use Rattle.sat_core.proofs.Walks.{All-map, finish, finish_clear}
 use Rattle.sat_core.proofs.Levels.{among_earlier, trail_distinct, top_most, All-before, before_lower, unset_before}

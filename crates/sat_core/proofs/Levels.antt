@@ -6,11 +6,12 @@ use Rattle.std.proofs.lemmas.Bool.{cases_eq, cases_lt, eq-eqb, ne_eqb, lt-ltb, l
 use Rattle.sat_log.specs.Literal.{Literal, negated}
 use Rattle.sat_log.specs.Clause.{Among, IsUnset, IsFalsified, HasDistinctVariables}
 use Rattle.sat_log.specs.declared.line.LogLine.{LogLine}
+use Rattle.sat_log.proofs.ListLemmas.{All-append, All-back}
+use Rattle.sat_log.proofs.LiteralLemmas.{negated-negated, All-among}
 use Rattle.sat_core.specs.Trail.{literals, top, before}
 use Rattle.sat_core.specs.Units.{HasCause, IsTrail, IsQuiet}
 use Rattle.sat_core.specs.Analysis.{is_marked, IsMarked, IsUnmarked, marked_at, IsAsserting, IsLatestFirst}
-use Rattle.sat_core.proofs.Literals.{negated-negated, apart_not_among, All-among}
-use Rattle.sat_core.proofs.Logs.{All-append, All-back}
+use Rattle.sat_core.proofs.Literals.{apart_not_among}
 use Rattle.sat_core.proofs.Marks.{marked_other}
 use Rattle.sat_core.proofs.Trails.{consistent}
 use Rattle.sat_core.proofs.Walks.{All-map, All-both}

@@ -13,3 +13,5 @@ pub mod Learning
 pub mod Meanings
 pub mod Steps
 pub mod Runs
+pub mod Rests
+pub mod WatchRules

@@ -100,15 +100,3 @@ clauses_more log i h =
     let line : LogLine = get_or log i none in
     let named : clause_at log (i + 1) ≡ hinted line.kind line.lits = named_next log i ∙ ap (option_and_then (λ (l : LogLine). hinted l.kind l.lits)) (slice_get-get_or log i none h) in
     ap clauses (take_more log i none h) ∙ clauses_push (take i log) line ∙ ap (λ o. clauses (take i log) ++ option_to_list o) (sym named)
-
-pub All-append : {A : Type 0} (P : A → Type 0) (xs ys : List A) → AllByRecursion P xs → AllByRecursion P ys → AllByRecursion P (xs ++ ys)
-All-append P [] ys h k = k
-All-append P (x ∷ xs) ys h k = (h.0, All-append P xs ys h.1 k)
-
-pub All-front : {A : Type 0} (P : A → Type 0) (xs ys : List A) → AllByRecursion P (xs ++ ys) → AllByRecursion P xs
-All-front P [] ys h = tt
-All-front P (x ∷ xs) ys h = (h.0, All-front P xs ys h.1)
-
-pub All-back : {A : Type 0} (P : A → Type 0) (xs ys : List A) → AllByRecursion P (xs ++ ys) → AllByRecursion P ys
-All-back P [] ys h = h
-All-back P (x ∷ xs) ys h = All-back P xs ys h.1

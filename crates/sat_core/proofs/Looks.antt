@@ -9,10 +9,12 @@ use Rattle.sat_log.specs.Clause.{Among, IsFalsified, IsUnset, HasDistinctVariabl
 use Rattle.sat_log.specs.Accepted.{clauses, clause_at}
 use Rattle.sat_log.specs.declared.line.LogLine.{LogLine}
 use Rattle.sat_log.specs.Checking.{AreUpTo}
+use Rattle.sat_log.proofs.ListLemmas.{All-append}
+use Rattle.sat_log.proofs.LiteralLemmas.{among_append, among_front, among_push, All-among}
 use Rattle.sat_core.specs.Trail.{literals, top, places}
 use Rattle.sat_core.specs.Units.{IsQuiet, AreQuiet, IsReason, IsTrail, AddsImplied}
-use Rattle.sat_core.proofs.Literals.{unset_apart, among_append, among_front, among_push, All-among}
-use Rattle.sat_core.proofs.Logs.{All-append, named_up_to, clauses_more}
+use Rattle.sat_core.proofs.Literals.{unset_apart}
+use Rattle.sat_core.proofs.Logs.{named_up_to, clauses_more}
 use Rattle.sat_core.specs.declared.trail.Entry.{Entry}
 
 -- of the literals so far, one was found unset or none, and all others are false

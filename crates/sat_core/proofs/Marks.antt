@@ -5,9 +5,9 @@ use Rattle.std.proofs.lemmas.Bool.{cases_eq}
 use Rattle.std.proofs.lemmas.List.{take_more}
 use Rattle.sat_log.specs.Literal.{Literal, negated}
 use Rattle.sat_log.specs.Clause.{Among, HasDistinctVariables}
+use Rattle.sat_log.proofs.LiteralLemmas.{among_append, among_front, among_push, All-among}
 use Rattle.sat_core.specs.Trail.{literals, bottom}
 use Rattle.sat_core.specs.Analysis.{is_marked, IsMarked, marked_at, HasOther, MarksOthers}
-use Rattle.sat_core.proofs.Literals.{among_append, among_front, among_push, All-among}
 use Rattle.sat_core.specs.declared.trail.Entry.{Entry}
 
 -- a mark that is set, and all others

@@ -12,6 +12,7 @@ use Rattle.sat_log.specs.Learned.{learned, AllFresh, conflicts as conflict_claus
 use Rattle.sat_log.specs.declared.line.LineKind.{LineKind}
 use Rattle.sat_log.specs.declared.line.LineKind.TheVariants.{Original, Conflict, Final}
 use Rattle.sat_log.specs.declared.line.LogLine.{LogLine}
+use Rattle.sat_log.proofs.ListLemmas.{All-append}
 use Rattle.sat_core.specs.Gained.{gained, conflicts, IsLonger, HasNoOriginal, HasNoFinal, IsLearned, AreLearned, IsRefusal}
 use Rattle.sat_core.specs.Gains.{Outcome, refuted, stopped, outcome, EndsAs, Gains}
 use Rattle.sat_core.specs.Assignment.{HasNoSolution}
@@ -24,7 +25,6 @@ use Rattle.sat_core.specs.declared.search.Step.{Step}
 use Rattle.sat_core.specs.declared.search.Step.TheVariants.{Learned, Decided}
 use Rattle.sat_core.specs.declared.budget.Budget.{Budget}
 use Rattle.sat_core.specs.declared.budget.Budget.TheVariants.{Unset, Of}
-use Rattle.sat_core.proofs.Logs.{All-append}
 
 -- all of the lines are conflict lines
 abbrev pub AreConflicts : List LogLine → Type 0
@@ -140,8 +140,8 @@ line_of_id log new line id same last =
     let place : id - 1 ≡ length log = omega arith in
     ap (λ (b : Bool). cond b None (slice_get new (id - 1))) (ne_eqb id 0 (λ zero. absurd (omega arith))) ∙ ap (slice_get new) place ∙ ap (λ (l : List LogLine). slice_get l (length log)) same ∙ last_line log line
 
-pub refusal : (start log new : List LogLine) (want : List Literal) (id : ℕ) → IsLonger start log → id ≡ length new → AddsFinal want log new → IsRefusal start new want id
-refusal start log new want id longer last a =
+pub refusal : (start log new : List LogLine) (want : List Literal) (id : ℕ) → IsLonger start log → HasNoFinal (gained start log) → id ≡ length new → AddsFinal want log new → IsRefusal start new want id
+refusal start log new want id longer none last a =
     let sum : length new ≡ length log + 1 = ap length a.same ∙ length_push log a.line in
     let more : length log ≡ length start + length (gained start log) = ap length longer ∙ length-append start (gained start log) in
     record {
@@ -151,6 +151,9 @@ refusal start log new want id longer last a =
       is_gained = omega arith;
       final = a.kind;
       literals = a.literals_are;
+      others = gained start log;
+      gained_are = gained_push start log new a.line longer a.same;
+      no_other = none;
     }
 
 given_final : (kind : LineKind) (lits : List Literal) → kind ≡ Final → option_to_list (given kind lits) ++ [] ≡ []
@@ -250,7 +253,7 @@ module _ (n : ℕ) (budget : Budget) (want : List Literal) (start : List LogLine
         learned = final_learned start log new want h a;
         fresh = fresh;
         few = few;
-        ends = (refusal start log new want id h.longer last a, subst (IsBelow budget) (sym (final_counts start log new a.line h.longer a.same a.kind)) below);
+        ends = (refusal start log new want id h.longer (none_final (gained start log) h.conflict) last a, subst (IsBelow budget) (sym (final_counts start log new a.line h.longer a.same a.kind)) below);
       }
 
 -- where a call has no answer, memory was refused

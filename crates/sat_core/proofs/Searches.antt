@@ -11,11 +11,12 @@ use Rattle.sat_log.specs.Accepted.{hinted, clause_at, clauses}
 use Rattle.sat_log.specs.Checking.{IsUpTo, AreUpTo}
 use Rattle.sat_log.specs.Kept.{original}
 use Rattle.sat_log.specs.declared.line.LogLine.{LogLine}
+use Rattle.sat_log.proofs.ListLemmas.{All-append}
 use Rattle.sat_core.specs.Trail.{Trailed, literals, top, before}
 use Rattle.sat_core.specs.Units.{HasCause, IsTrail, AreQuiet, MissesNoUnit}
 use Rattle.sat_core.specs.Analysis.{Analyzed, IsUnmarked}
 use Rattle.sat_core.specs.Search.{KeepsSearch}
-use Rattle.sat_core.proofs.Logs.{All-append}
+use Rattle.sat_log.proofs.LogLemmas.{all_up_to_more}
 use Rattle.sat_core.proofs.Looks.{entries_apart}
 use Rattle.sat_core.proofs.Trails.{before_all}
 use Rattle.sat_core.specs.declared.trail.Entry.{Entry}
@@ -68,16 +69,6 @@ keeps_originals log trail analysis (c ∷ cs) k none up =
     (keeps_originals (log ++ original c ∷ []) trail analysis cs (keeps_original log trail analysis (original c) k none up.0) none up.1)
 
 -- One variable more.
-
-up_to_more : (n m : ℕ) (c : List Literal) → n ≤ m → IsUpTo n c → IsUpTo m c
-up_to_more n m [] h u = tt
-up_to_more n m (l ∷ c) h u =
-    let first : l.var ≤ n = u.0 in
-    (omega arith, up_to_more n m c h u.1)
-
-pub all_up_to_more : (n m : ℕ) (log : List LogLine) → n ≤ m → AreUpTo n log → AreUpTo m log
-all_up_to_more n m [] h u = tt
-all_up_to_more n m (line ∷ log) h u = (up_to_more n m line.lits h u.0, all_up_to_more n m log h u.1)
 
 pub keeps_variable : (log : List LogLine) (old new : Trailed) (analysis wider : Analyzed) → KeepsSearch log old analysis → new.entries ≡ old.entries → old.variables ≤ new.variables → new.variables < length wider.seen → IsUnmarked wider.seen → KeepsSearch log new wider
 keeps_variable log old new analysis wider k same more size clear =

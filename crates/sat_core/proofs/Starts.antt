@@ -7,10 +7,10 @@ use Rattle.sat_log.specs.Literal.{Literal, negated, packed}
 use Rattle.sat_log.specs.Clause.{Among, HasDistinctVariables}
 use Rattle.sat_log.specs.Accepted.{clauses}
 use Rattle.sat_log.specs.declared.line.LogLine.{LogLine}
+use Rattle.sat_log.proofs.LiteralLemmas.{All-among, packed_injective}
 use Rattle.sat_core.specs.Trail.{literals, top, before, bottom}
 use Rattle.sat_core.specs.Units.{IsTrail, IsReason, IsConflict, IsQuiet, AreQuiet}
 use Rattle.sat_core.specs.Analysis.{room, IsUnmarked, marked_at, MarksOthers, AreFalseIn, IsAnalysis}
-use Rattle.sat_core.proofs.Literals.{All-among, packed_injective}
 use Rattle.sat_core.proofs.Logs.{All-clause}
 use Rattle.sat_core.proofs.Trails.{consistent}
 use Rattle.sat_core.proofs.Walks.{start, All-map}

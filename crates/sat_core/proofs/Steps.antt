@@ -10,12 +10,12 @@ use Rattle.sat_log.specs.Checking.{IsUpTo, AreUpTo}
 use Rattle.sat_log.specs.declared.line.LineKind.{LineKind}
 use Rattle.sat_log.specs.declared.line.LineKind.TheVariants.{Original, Conflict, Final}
 use Rattle.sat_log.specs.declared.line.LogLine.{LogLine}
+use Rattle.sat_log.proofs.LiteralLemmas.{All-among}
 use Rattle.sat_core.specs.Assignment.{assignment, AreTrue, IsSolution}
 use Rattle.sat_core.specs.Trail.{Trailed, literals, top, before, AreAllSet}
 use Rattle.sat_core.specs.Units.{HasCause, IsTrail, AddsImplied, IsQuiet, AreQuiet, MissesNoUnit}
 use Rattle.sat_core.specs.Analysis.{Analyzed}
 use Rattle.sat_core.specs.Search.{KeepsSearch, AreAmong, AskedFirst}
-use Rattle.sat_core.proofs.Literals.{All-among}
 use Rattle.sat_core.proofs.Walks.{All-map, All-both}
 use Rattle.sat_core.proofs.Levels.{before_lower, top_most}
 use Rattle.sat_core.proofs.Learning.{before_trail, top_lower}

@@ -8,8 +8,9 @@ use Rattle.std.proofs.lemmas.List.{get_or_past, length_push}
 use Rattle.sat_log.specs.Literal.{Literal, packed}
 use Rattle.sat_log.specs.Clause.{Among, IsUnset}
 use Rattle.sat_log.specs.Marked.{is_numbered}
+use Rattle.sat_log.proofs.Decided.{among_from_set, set_from_among}
 use Rattle.sat_core.specs.Trail.{entry_of, literals, places, KeepsTrail}
-use Rattle.sat_core.proofs.Literals.{unset_apart, apart_not_among, among_from_numbered, numbered_from_among}
+use Rattle.sat_core.proofs.Literals.{unset_apart, apart_not_among}
 use Rattle.sat_core.specs.declared.trail.Entry.{Entry}
 
 -- a literal of a variable up to the last has a place
@@ -58,7 +59,7 @@ module _ (n : ℕ) (truths : List Bool) (levels : List ℕ) (reasons : List (Opt
   not_true_at t h none =
       let place = place_within n l h in
       let size = t.truths_size in
-      t.values (packed l) (omega arith) ∙ false_from_ne_true (is_numbered true_ (packed l)) (λ e. none (among_from_numbered true_ l e))
+      t.values (packed l) (omega arith) ∙ false_from_ne_true (is_numbered true_ (packed l)) (λ e. none (among_from_set true_ l e))
 
   -- there is a place for one more
   pub place_left : KeepsTrail n truths levels reasons true_ capacity → l.var ≤ n → ¬ Among true_ l → length true_ < places n
@@ -114,7 +115,7 @@ module _ (n : ℕ) (truths : List Bool) (levels : List ℕ) (reasons : List (Opt
           let place = place_within n l t.within.0.1 in
           let size = t.truths_size in
           ap (λ k. get_or (set truths (packed l) false) k false) e ∙ get_or-set_same truths (packed l) false false (omega arith)
-          ∙ sym (ap (is_numbered true_) e ∙ false_from_ne_true (is_numbered true_ (packed l)) (λ s. apart_not_among true_ l t.distinct.0 (among_from_numbered true_ l s)))
+          ∙ sym (ap (is_numbered true_) e ∙ false_from_ne_true (is_numbered true_ (packed l)) (λ s. apart_not_among true_ l t.distinct.0 (among_from_set true_ l s)))
       by_place (inr ne) =
           get_or-set_other truths (packed l) m false false ne ∙ t.values m below ∙ ap (λ b. b || is_numbered true_ m) (ne_eqb (packed l) m (λ e. ne (sym e)))
 
@@ -125,7 +126,7 @@ module _ (n : ℕ) (truths : List Bool) (levels : List ℕ) (reasons : List (Opt
       let size = t.truths_size in
       let kept : length (set truths (packed l) false) ≡ length truths = length-set truths (packed l) false in
       let inside : packed l < length truths = omega arith in
-      let true_there : get_or truths (packed l) false ≡ true = t.values (packed l) inside ∙ numbered_from_among (l ∷ true_) l (inl refl) in
+      let true_there : get_or truths (packed l) false ≡ true = t.values (packed l) inside ∙ set_from_among (l ∷ true_) l (inl refl) in
       let less = count_less truths (packed l) inside true_there in
       let counted : count_by (λ b. b) truths ≡ length true_ + 1 = t.count ∙ omega arith in
       record {

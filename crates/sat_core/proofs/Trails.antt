@@ -6,9 +6,10 @@ use Rattle.std.proofs.lemmas.Bool.{lt-ltb, le-ltb, false≢true, false_from_ne_t
 use Rattle.std.proofs.lemmas.List.{reverse-append, length-reverse, length-map, length-drop, take-append-drop, map-append, drop_at, take_more, get_or-reverse, get_or_append_left}
 use Rattle.sat_log.specs.Literal.{Literal, negated}
 use Rattle.sat_log.specs.Clause.{Among, HasDistinctVariables, literal_value}
+use Rattle.sat_log.proofs.LiteralLemmas.{literal_by_parts}
 use Rattle.sat_core.specs.Assignment.{assignment, AreTrue}
 use Rattle.sat_core.specs.Trail.{entry_of, top, before, bottom}
-use Rattle.sat_core.proofs.Literals.{apart_not_among, literal_by_parts}
+use Rattle.sat_core.proofs.Literals.{apart_not_among}
 use Rattle.sat_core.specs.declared.trail.Entry.{Entry}
 
 -- The entry at a place.

@@ -7,10 +7,11 @@ use Rattle.sat_log.specs.Literal.{Literal, negated}
 use Rattle.sat_log.specs.Clause.{Among}
 use Rattle.sat_log.specs.Accepted.{IsLog}
 use Rattle.sat_log.specs.declared.line.LogLine.{LogLine}
+use Rattle.sat_log.proofs.ListLemmas.{All-back}
 use Rattle.sat_core.specs.Trail.{literals, bottom}
 use Rattle.sat_core.specs.Units.{HasCause, IsTrail, IsReason}
 use Rattle.sat_core.specs.Analysis.{Analyzed, is_marked, IsMarked, marked_at, MarksOthers, AreFalseIn, IsAnalysis}
-use Rattle.sat_core.proofs.Logs.{named_distinct, All-back}
+use Rattle.sat_core.proofs.Logs.{named_distinct}
 use Rattle.sat_core.proofs.Trails.{consistent}
 use Rattle.sat_core.proofs.Walks.{step_skip, step_keep, step_resolve}
 use Rattle.sat_core.proofs.Levels.{trail_distinct, trail_back}

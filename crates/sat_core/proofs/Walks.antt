@@ -9,11 +9,11 @@ use Rattle.sat_log.specs.Clause.{Among, IsFalsified, IsUnset, IsUnit, HasDistinc
 use Rattle.sat_log.specs.Accepted.{clause_at}
 use Rattle.sat_log.specs.Learned.{StandsInSome}
 use Rattle.sat_log.specs.declared.line.LogLine.{LogLine}
+use Rattle.sat_log.proofs.ListLemmas.{All-append, All-front, All-back}
+use Rattle.sat_log.proofs.LiteralLemmas.{negated-negated, among_append, among_front, among_push, All-among}
 use Rattle.sat_core.specs.Trail.{literals}
 use Rattle.sat_core.specs.Units.{Implies}
 use Rattle.sat_core.specs.Analysis.{Analyzed, room, is_marked, IsMarked, IsUnmarked, HasVariable, HasOther, MarksOthers, AreFalseIn, Explains, IsBase, IsAnalysis}
-use Rattle.sat_core.proofs.Literals.{negated-negated, among_append, among_front, among_push, All-among}
-use Rattle.sat_core.proofs.Logs.{All-append, All-front, All-back}
 use Rattle.sat_core.proofs.Marks.{other_marked}
 use Rattle.sat_core.specs.declared.trail.Entry.{Entry}
 

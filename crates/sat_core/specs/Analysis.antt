@@ -72,7 +72,8 @@ pub record IsBase (rest : List Entry) (a : Analyzed) (set : List Literal) : Type
 -- the literals of the clause are false.
 pub record IsAnalysis (log : List LogLine) (rest : List Entry) (a : Analyzed) : Type 0 where
   pub explains : (set : List Literal) → IsBase rest a set → Explains log set a.hints
-  pub rest_drawn : AllByRecursion (λ e. IsMarked a.seen e.literal.var → StandsInSome log a.hints (negated e.literal)) rest
+  pub rest_drawn : AllByRecursion (λ e. IsMarked a.seen e.literal.var →
+      StandsInSome log a.hints (negated e.literal)) rest
   pub lits_drawn : AllByRecursion (StandsInSome log a.hints) a.lits
   pub marks_within : (v : ℕ) → IsMarked a.seen v → HasVariable rest v
   pub distinct : HasDistinctVariables a.lits
@@ -84,14 +85,17 @@ pub record IsAnalysis (log : List LogLine) (rest : List Entry) (a : Analyzed) : 
 abbrev pub IsLatestFirst : List Entry → List Literal → Type 0
 IsLatestFirst entries [] = Unit {0}
 IsLatestFirst entries (o ∷ others) =
-    (level : ℕ) → Among (literals (before level entries)) (negated o) → AllByRecursion (λ l. Among (literals (before level entries)) (negated l)) others
+    (level : ℕ) → Among (literals (before level entries)) (negated o) →
+    AllByRecursion (λ l. Among (literals (before level entries)) (negated l)) others
 
 -- The first literal of the clause is unset before the level, and all others are false there, of which the first is of the
 -- latest level; as long as there is none, some entry of the level is marked.
 abbrev pub IsAsserting : ℕ → List Entry → ℕ → List Literal → Type 0
 IsAsserting level entries open_ [] = 1 ≤ open_
 IsAsserting level entries open_ (u ∷ others) =
-    (open_ ≡ 0) × IsUnset (literals (before level entries)) u × AllByRecursion (λ l. Among (literals (before level entries)) (negated l)) others × IsLatestFirst entries others
+    (open_ ≡ 0) × IsUnset (literals (before level entries)) u ×
+    AllByRecursion (λ l. Among (literals (before level entries)) (negated l)) others ×
+    IsLatestFirst entries others
 
 -- the first literal is unset, and all others are false
 abbrev pub IsAsserted : List Literal → List Literal → Type 0

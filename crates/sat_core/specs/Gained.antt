@@ -39,7 +39,7 @@ AreLearned before [] = Unit {0}
 AreLearned before (line ∷ lines) = IsLearned before line × AreLearned (before ++ line ∷ []) lines
 
 -- The line of this id is the last one. It was gained, is final, and its literals are negations of some that
--- are wanted.
+-- are wanted. No other line that was gained is final.
 pub record IsRefusal (old new : List LogLine) (want : List Literal) (id : ℕ) : Type 0 where
   pub line : LogLine
   pub stands : line_at new id ≡ Some line
@@ -47,3 +47,6 @@ pub record IsRefusal (old new : List LogLine) (want : List Literal) (id : ℕ) :
   pub is_gained : length old < id
   pub final : line.kind ≡ Final
   pub literals : AllByRecursion (λ l. Among want (negated l)) line.lits
+  pub others : List LogLine
+  pub gained_are : gained old new ≡ others ++ line ∷ []
+  pub no_other : HasNoFinal others

@@ -30,13 +30,17 @@ outcome (Err e) = stopped
 -- refutes appends a final line.
 abbrev pub EndsAs : Budget → List Literal → List LogLine → List LogLine → Outcome → Type 0
 EndsAs budget want old new found = HasNoFinal (gained old new) × IsBelow budget (conflicts (gained old new))
-EndsAs budget want old new (refuted id) = IsRefusal old new want id × IsBelow budget (conflicts (gained old new))
-EndsAs budget want old new (spent n) = HasNoFinal (gained old new) × (budget ≡ Of n) × (conflicts (gained old new) ≡ n)
-EndsAs budget want old new stopped = HasNoFinal (gained old new) × IsWithin budget (conflicts (gained old new))
+EndsAs budget want old new (refuted id) =
+    IsRefusal old new want id × IsBelow budget (conflicts (gained old new))
+EndsAs budget want old new (spent n) =
+    HasNoFinal (gained old new) × (budget ≡ Of n) × (conflicts (gained old new) ≡ n)
+EndsAs budget want old new stopped =
+    HasNoFinal (gained old new) × IsWithin budget (conflicts (gained old new))
 
 -- The log is a log and begins with the old one. Its new conflict lines are needed and drawn, and so fresh. Over n variables
 -- they are fewer than 3 ^ n, so that no budget as great as that is ever spent.
-pub record Gains (variables : ℕ) (budget : Budget) (want : List Literal) (old new : List LogLine) (end : Outcome) : Type 0 where
+pub record Gains (variables : ℕ) (budget : Budget) (want : List Literal)
+    (old new : List LogLine) (end : Outcome) : Type 0 where
   pub longer : IsLonger old new
   pub is_log : IsLog new
   pub learned : AreLearned old (gained old new)

@@ -8,3 +8,4 @@ pub mod Units
 pub mod Passes
 pub mod Analysis
 pub mod Search
+pub mod WatchRule

@@ -9,7 +9,8 @@ use Rattle.sat_log.specs.Checking.{AreUpTo}
 use Rattle.sat_log.specs.declared.line.LineKind.TheVariants.{Conflict, Final}
 use Rattle.sat_log.specs.declared.line.LogLine.{LogLine}
 use Rattle.sat_core.specs.Assignment.{IsSolution}
-use Rattle.sat_core.specs.Trail.{Trailed, literals, places}
+use Rattle.sat_core.specs.Gained.{AreLearned}
+use Rattle.sat_core.specs.Trail.{Trailed, literals, top, places}
 use Rattle.sat_core.specs.Units.{IsTrail, MissesNoUnit}
 use Rattle.sat_core.specs.Analysis.{Analyzed, IsUnmarked, AreNegationsOf}
 use Rattle.sat_core.specs.declared.trail.Entry.{Entry}
@@ -32,6 +33,11 @@ pub record KeepsSearch (log : List LogLine) (trail : Trailed) (analysis : Analyz
   pub quiet : MissesNoUnit log trail.entries
   pub clear : IsUnmarked analysis.seen
   pub size : trail.variables < length analysis.seen
+
+-- Between two questions no level is open, and each conflict line of the log was learned.
+pub record IsAtRest (search : Searched) : Type 0 where
+  pub level : top search.entries ≡ 0
+  pub learned : AreLearned [] search.log
 
 -- all of these literals are true
 abbrev pub AreAmong : List Literal → List Literal → Type 0
@@ -74,6 +80,7 @@ pub record AddsFinal (want : List Literal) (old new : List LogLine) : Type 0 whe
 -- what comes of a step of a search
 abbrev pub StepsTo : List Literal → Searched → Searched → Step → Type 0
 StepsTo want old new Learned = AddsLearned old.log new.log
-StepsTo want old new Decided = (new.log ≡ old.log) × (length old.entries < length new.entries) × (length new.entries ≤ places new.variables)
+StepsTo want old new Decided = (new.log ≡ old.log) × (length old.entries < length new.entries) ×
+    (length new.entries ≤ places new.variables)
 StepsTo want old new (Yes bits) = (new.log ≡ old.log) × IsSolution new.variables new.log want bits
 StepsTo want old new (No id) = (id ≡ length new.log) × AddsFinal want old.log new.log

@@ -35,11 +35,16 @@ places variables = 2 * variables + 2
 
 -- the entry of a literal, where the variables have these levels and reasons
 abbrev pub entry_of : List ℕ → List (Option ℕ) → Literal → Entry
-entry_of levels reasons l = record { literal = l; level = slice_index_or levels l.var 0; reason = slice_index_or reasons l.var None }
+entry_of levels reasons l = record {
+  literal = l;
+  level = slice_index_or levels l.var 0;
+  reason = slice_index_or reasons l.var None;
+}
 
 -- The tables fit the literals that are true, of which the latest comes first: a truth value for each literal, and
 -- a level and a reason for each variable.
-pub record KeepsTrail (variables : ℕ) (truths : List Bool) (levels : List ℕ) (reasons : List (Option ℕ)) (true_ : List Literal) (capacity : ℕ) : Type 0 where
+pub record KeepsTrail (variables : ℕ) (truths : List Bool) (levels : List ℕ)
+    (reasons : List (Option ℕ)) (true_ : List Literal) (capacity : ℕ) : Type 0 where
   pub truths_size : length truths ≡ places variables
   pub levels_size : length levels ≡ variables + 1
   pub reasons_size : length reasons ≡ variables + 1

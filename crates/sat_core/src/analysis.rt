@@ -31,9 +31,14 @@ impl Model for Analysis {
 
     ghost Value = { Analyzed };
 
-    ghost view = { λ a. record { seen = a.seen.items; lits = a.lits.items; hints = reverse a.hints.items } };
+    ghost view = { λ a. record {
+      seen = a.seen.items;
+      lits = a.lits.items;
+      hints = reverse a.hints.items;
+    } };
 
-    ghost invariant = { λ a. (room a.seen.items ≤ vec_capacity a.lits) × (room a.seen.items ≤ vec_capacity a.hints) };
+    ghost invariant = { λ a. (room a.seen.items ≤ vec_capacity a.lits) ×
+        (room a.seen.items ≤ vec_capacity a.hints) };
 }
 
 /// Marks the variables of the clause's literals that are not true. Answers how many that were not marked before have
@@ -43,8 +48,10 @@ fn mark_others(seen: &mut [bool], trail: &Trail, clause: &[SLit], level: u64) ->
     requires exist { IsUpTo trail.now.variables clause.now }
     requires size { trail.now.variables < length seen.old }
     ensures marks { MarksOthers (literals trail.now.entries) clause.now seen.old seen.new }
-    ensures count { (i : ℕ) → AreFalseIn (literals trail.now.entries) clause.now (literals (bottom i trail.now.entries)) →
-        marked_at level seen.new (bottom i trail.now.entries) ≡ marked_at level seen.old (bottom i trail.now.entries) + result }
+    ensures count { (i : ℕ) →
+        AreFalseIn (literals trail.now.entries) clause.now (literals (bottom i trail.now.entries)) →
+        marked_at level seen.new (bottom i trail.now.entries) ≡
+        marked_at level seen.old (bottom i trail.now.entries) + result }
 {
     let mut found = 0;
     for &literal in clause {
@@ -105,7 +112,11 @@ impl Analysis {
     pub(crate) fn unmark(&mut self, var: u64) -> bool
         requires { var < length self.old.seen }
         ensures mark { result ≡ is_marked self.old.seen var }
-        ensures new { self.new ≡ record { seen = slice_set self.old.seen var false; lits = self.old.lits; hints = self.old.hints } }
+        ensures new { self.new ≡ record {
+          seen = slice_set self.old.seen var false;
+          lits = self.old.lits;
+          hints = self.old.hints;
+        } }
     {
         let marked = self.seen[var as usize];
         self.seen[var as usize] = false;
@@ -115,7 +126,11 @@ impl Analysis {
     /// Adds a literal to the clause.
     pub(crate) fn keep(&mut self, literal: SLit)
         requires { length self.old.lits < room self.old.seen }
-        ensures { self.new ≡ record { seen = self.old.seen; lits = self.old.lits ++ literal ∷ []; hints = self.old.hints } }
+        ensures { self.new ≡ record {
+          seen = self.old.seen;
+          lits = self.old.lits ++ literal ∷ [];
+          hints = self.old.hints;
+        } }
     {
         self.lits.push_reserved(literal);
     }
@@ -127,9 +142,12 @@ impl Analysis {
         requires exist { AreUpTo trail.now.variables log.now }
         requires size { trail.now.variables < length self.old.seen }
         requires room { length self.old.hints < room self.old.seen }
-        ensures marks { (c : List Literal) → clause_at log.now id ≡ Some c → MarksOthers (literals trail.now.entries) c self.old.seen self.new.seen }
-        ensures count { (c : List Literal) (i : ℕ) → clause_at log.now id ≡ Some c → AreFalseIn (literals trail.now.entries) c (literals (bottom i trail.now.entries)) →
-            marked_at level self.new.seen (bottom i trail.now.entries) ≡ marked_at level self.old.seen (bottom i trail.now.entries) + result }
+        ensures marks { (c : List Literal) → clause_at log.now id ≡ Some c →
+            MarksOthers (literals trail.now.entries) c self.old.seen self.new.seen }
+        ensures count { (c : List Literal) (i : ℕ) → clause_at log.now id ≡ Some c →
+            AreFalseIn (literals trail.now.entries) c (literals (bottom i trail.now.entries)) →
+            marked_at level self.new.seen (bottom i trail.now.entries) ≡
+            marked_at level self.old.seen (bottom i trail.now.entries) + result }
         ensures size { length self.new.seen ≡ length self.old.seen }
         ensures lits { self.new.lits ≡ self.old.lits }
         ensures hints { self.new.hints ≡ id ∷ self.old.hints }
@@ -158,7 +176,8 @@ impl Analysis {
     ///
     /// `AllocError` where memory is refused.
     pub(crate) fn line(&self, alloc: Global, kind: LineKind) -> Result<LogLine, AllocError>
-        ensures { IfOk result (λ line. line ≡ record { kind = kind; lits = self.now.lits; hints = self.now.hints }) }
+        ensures { IfOk result (λ line. line ≡
+            record { kind = kind; lits = self.now.lits; hints = self.now.hints }) }
     {
         Ok(LogLine {
             kind,

@@ -20,7 +20,8 @@ fn resolvent(entry: &Entry, level: u64, left: usize) -> Option<u64>
     requires { 1 ≤ level }
     ensures reason { IfSome result (λ id. entry.now.reason ≡ Some id) }
     ensures others { IfSome result (λ _. entry.now.level ≡ level → left ≢ 0) }
-    ensures kept { IfNone result ((entry.now.reason ≡ None) ⊎ ((entry.now.level ≢ 0) × (entry.now.level ≡ level → left ≡ 0))) }
+    ensures kept { IfNone result ((entry.now.reason ≡ None) ⊎ ((entry.now.level ≢ 0) ×
+        (entry.now.level ≡ level → left ≡ 0))) }
 {
     if entry.level == 0 || entry.level == level && left > 0 {
         entry.reason
@@ -41,7 +42,8 @@ impl Analysis {
         requires latest { top trail.now.entries ≡ level }
         requires above { 1 ≤ level }
         requires state { IsAnalysis log.now (bottom (i + 1) trail.now.entries) self.old }
-        requires counted { pending ≡ marked_at level self.old.seen (bottom (i + 1) trail.now.entries) }
+        requires counted { pending ≡ marked_at level self.old.seen
+            (bottom (i + 1) trail.now.entries) }
         requires asserting { IsAsserting level trail.now.entries pending self.old.lits }
         ensures state { IsAnalysis log.now (bottom i trail.now.entries) self.new }
         ensures counted { result ≡ marked_at level self.new.seen (bottom i trail.now.entries) }
@@ -76,7 +78,8 @@ impl Analysis {
         requires clear { IsUnmarked self.old.seen }
         requires conflict { IsConflict log.now (literals trail.now.entries) conflict }
         requires above { 1 ≤ top trail.now.entries }
-        requires quiet { AreQuiet (literals (before (top trail.now.entries) trail.now.entries)) (clauses log.now) }
+        requires quiet { AreQuiet (literals (before (top trail.now.entries) trail.now.entries))
+            (clauses log.now) }
         ensures state { IsAnalysis log.now [] self.new }
         ensures asserting { IsAsserting (top trail.now.entries) trail.now.entries 0 self.new.lits }
         ensures size { length self.new.seen ≡ length self.old.seen }
@@ -99,7 +102,8 @@ impl Analysis {
         requires inside { i < length trail.now.entries }
         requires state { IsAnalysis log.now (bottom (i + 1) trail.now.entries) self.old }
         ensures state { IsAnalysis log.now (bottom i trail.now.entries) self.new }
-        ensures kept { (want : List Literal) → AreDecided want trail.now.entries → AreNegationsOf want self.old.lits → AreNegationsOf want self.new.lits }
+        ensures kept { (want : List Literal) → AreDecided want trail.now.entries →
+            AreNegationsOf want self.old.lits → AreNegationsOf want self.new.lits }
         ensures size { length self.new.seen ≡ length self.old.seen }
     {
         let entry = trail.entry(i);
@@ -123,7 +127,8 @@ impl Analysis {
         requires clear { IsUnmarked self.old.seen }
         requires conflict { IsConflict log.now (literals trail.now.entries) conflict }
         ensures state { IsAnalysis log.now [] self.new }
-        ensures kept { (want : List Literal) → AreDecided want trail.now.entries → AreNegationsOf want self.new.lits }
+        ensures kept { (want : List Literal) → AreDecided want trail.now.entries →
+            AreNegationsOf want self.new.lits }
         ensures size { length self.new.seen ≡ length self.old.seen }
     {
         self.clear();
@@ -143,11 +148,14 @@ impl Analysis {
         requires clear { IsUnmarked self.old.seen }
         requires inside { place < length trail.now.entries }
         requires room { length trail.now.entries ≤ places trail.now.variables }
-        requires implied { IsReason log.now (literals (bottom place trail.now.entries)) reason literal }
+        requires implied { IsReason log.now
+            (literals (bottom place trail.now.entries)) reason literal }
         requires true_ { Among (literals trail.now.entries) literal }
-        requires apart { AllByRecursion (λ e. e.literal.var ≢ literal.var) (bottom place trail.now.entries) }
+        requires apart { AllByRecursion (λ e. e.literal.var ≢ literal.var)
+            (bottom place trail.now.entries) }
         ensures state { IsAnalysis log.now [] self.new }
-        ensures kept { (want : List Literal) → AreDecided want trail.now.entries → Among want (negated literal) → AreNegationsOf want self.new.lits }
+        ensures kept { (want : List Literal) → AreDecided want trail.now.entries →
+            Among want (negated literal) → AreNegationsOf want self.new.lits }
         ensures size { length self.new.seen ≡ length self.old.seen }
     {
         self.clear();
@@ -166,9 +174,11 @@ impl Analysis {
         requires size { trail.now.variables < length self.old.seen }
         requires clear { IsUnmarked self.old.seen }
         requires false_ { Among (literals trail.now.entries) (negated wanted) }
-        requires implied { AllByRecursion (λ e. e.reason ≡ None → e.literal ≢ negated wanted) trail.now.entries }
+        requires implied { AllByRecursion (λ e. e.reason ≡ None →
+            e.literal ≢ negated wanted) trail.now.entries }
         ensures state { IsAnalysis log.now [] self.new }
-        ensures kept { (want : List Literal) → AreDecided want trail.now.entries → Among want wanted → AreNegationsOf want self.new.lits }
+        ensures kept { (want : List Literal) → AreDecided want trail.now.entries →
+            Among want wanted → AreNegationsOf want self.new.lits }
         ensures size { length self.new.seen ≡ length self.old.seen }
     {
         for place in (0..trail.len()).rev() {

@@ -45,9 +45,12 @@ impl Search {
         requires quiet { AreQuiet (literals self.old.entries) (clauses self.old.log) }
         requires asked { AskedFirst want.now self.old.entries }
         ensures decided { IsDecided want.now self.old.entries result }
-        ensures complete { result ≡ Decision.Complete → AreAllSet self.old.variables (literals self.old.entries) }
-        ensures longer { result ≡ Decision.Made → length self.old.entries < length self.new.entries }
-        ensures room { result ≡ Decision.Made → length self.new.entries ≤ places self.new.variables }
+        ensures complete { result ≡ Decision.Complete →
+            AreAllSet self.old.variables (literals self.old.entries) }
+        ensures longer { result ≡ Decision.Made →
+            length self.old.entries < length self.new.entries }
+        ensures room { result ≡ Decision.Made →
+            length self.new.entries ≤ places self.new.variables }
         ensures same { result ≢ Decision.Made → self.new.entries ≡ self.old.entries }
         ensures asked { AskedFirst want.now self.new.entries }
         ensures log { self.new.log ≡ self.old.log }

@@ -41,7 +41,11 @@ fn append(log: &mut Log, line: LogLine) -> Result<u64, AllocError>
 /// `AllocError` where memory is refused; the log stays as it was.
 fn append_final(alloc: Global, log: &mut Log, analysis: &Analysis) -> Result<u64, AllocError>
     requires { IsAnalysis log.old [] analysis.now }
-    ensures ok { OnOk result (log.new ≡ log.old ++ record { kind = LineKind.Final; lits = analysis.now.lits; hints = analysis.now.hints } ∷ []) }
+    ensures ok { OnOk result (log.new ≡ log.old ++ record {
+      kind = LineKind.Final;
+      lits = analysis.now.lits;
+      hints = analysis.now.hints;
+    } ∷ []) }
     ensures id { IfOk result (λ id. id ≡ length log.new) }
     ensures err { OnErr result (log.new ≡ log.old) }
 {
@@ -63,8 +67,10 @@ impl Search {
         ensures ok { OnOk result (AddsLearned self.old.log self.new.log) }
         ensures err { OnErr result (self.new.log ≡ self.old.log) }
         // The jump goes to exactly the latest level among the clause's literals but the first, which is unset then.
-        ensures jump { (line : LogLine) → self.new.log ≡ self.old.log ++ line ∷ [] → IsAsserted (literals self.new.entries) line.lits }
-        ensures asked { (want : List Literal) → AskedFirst want self.old.entries → AskedFirst want self.new.entries }
+        ensures jump { (line : LogLine) → self.new.log ≡ self.old.log ++ line ∷ [] →
+            IsAsserted (literals self.new.entries) line.lits }
+        ensures asked { (want : List Literal) → AskedFirst want self.old.entries →
+            AskedFirst want self.new.entries }
         ensures variables { self.new.variables ≡ self.old.variables }
     {
         self.analysis.analyze(&self.log, &self.trail, conflict);
@@ -84,7 +90,8 @@ impl Search {
         requires log { IsLog self.old.log }
         requires conflict { IsConflict self.old.log (literals self.old.entries) conflict }
         requires level { top self.old.entries ≡ 0 }
-        ensures ok { (want : List Literal) → OnOk result (AddsFinal want self.old.log self.new.log) }
+        ensures ok { (want : List Literal) →
+            OnOk result (AddsFinal want self.old.log self.new.log) }
         ensures id { IfOk result (λ id. id ≡ length self.new.log) }
         ensures err { OnErr result (self.new.log ≡ self.old.log) }
         ensures entries { self.new.entries ≡ self.old.entries }

@@ -52,7 +52,11 @@ impl Model for Search {
 
     ghost Value = { Searched };
 
-    ghost view = { λ s. record { variables = s.trail.variables; log = s.log; entries = s.trail.entries } };
+    ghost view = { λ s. record {
+      variables = s.trail.variables;
+      log = s.log;
+      entries = s.trail.entries;
+    } };
 
     ghost invariant = { λ s. KeepsSearch s.log s.trail s.analysis };
 }
@@ -95,7 +99,11 @@ impl Search {
     ///
     /// `AllocError` where memory is refused; all stays as it was.
     pub(crate) fn add_variable(&mut self) -> Result<(), AllocError>
-        ensures ok { OnOk result (self.new ≡ record { variables = self.old.variables + 1; log = self.old.log; entries = self.old.entries }) }
+        ensures ok { OnOk result (self.new ≡ record {
+          variables = self.old.variables + 1;
+          log = self.old.log;
+          entries = self.old.entries;
+        }) }
         ensures err { OnErr result (self.new ≡ self.old) }
     {
         self.analysis.make_room(self.trail.variables() + 1)?;
@@ -112,7 +120,11 @@ impl Search {
         requires distinct { HasDistinctVariables lits.now }
         requires exist { IsUpTo self.old.variables lits.now }
         requires level { top self.old.entries ≡ 0 }
-        ensures ok { OnOk result (self.new ≡ record { variables = self.old.variables; log = self.old.log ++ original lits.now ∷ []; entries = self.old.entries }) }
+        ensures ok { OnOk result (self.new ≡ record {
+          variables = self.old.variables;
+          log = self.old.log ++ original lits.now ∷ [];
+          entries = self.old.entries;
+        }) }
         ensures id { IfOk result (λ id. id ≡ length self.new.log) }
         ensures err { OnErr result (self.new ≡ self.old) }
     {
@@ -128,7 +140,11 @@ impl Search {
         requires proper { AreProper clauses.now }
         requires exist { AllByRecursion (IsUpTo self.old.variables) clauses.now }
         requires level { top self.old.entries ≡ 0 }
-        ensures ok { OnOk result (self.new ≡ record { variables = self.old.variables; log = self.old.log ++ map original clauses.now; entries = self.old.entries }) }
+        ensures ok { OnOk result (self.new ≡ record {
+          variables = self.old.variables;
+          log = self.old.log ++ map original clauses.now;
+          entries = self.old.entries;
+        }) }
         ensures err { OnErr result (self.new ≡ self.old) }
     {
         self.log.add_originals(clauses)
@@ -157,7 +173,8 @@ impl Search {
     /// `AllocError` where memory is refused.
     fn values(&self) -> Result<SBits, AllocError>
         ensures one_each { IfOk result (λ bits. length bits ≡ self.now.variables) }
-        ensures true_ { IfOk result (λ bits. AreTrue (assignment bits) (literals self.now.entries)) }
+        ensures true_ { IfOk result (λ bits. AreTrue (assignment bits)
+            (literals self.now.entries)) }
     {
         Ok(SBits::new(self.trail.values(self.alloc)?))
     }
@@ -175,8 +192,10 @@ impl Search {
     /// Makes true what unit clauses imply. Answers the id of a clause that is false, if one is.
     fn propagate(&mut self) -> Option<u64>
         ensures conflict { IfSome result (IsConflict self.new.log (literals self.new.entries)) }
-        ensures quiet { IfNone result (AreQuiet (literals self.new.entries) (clauses self.new.log)) }
-        ensures asked { (want : List Literal) → AskedFirst want self.old.entries → AskedFirst want self.new.entries }
+        ensures quiet { IfNone result (AreQuiet (literals self.new.entries)
+            (clauses self.new.log)) }
+        ensures asked { (want : List Literal) → AskedFirst want self.old.entries →
+            AskedFirst want self.new.entries }
         ensures longer { length self.old.entries ≤ length self.new.entries }
         ensures log { self.new.log ≡ self.old.log }
         ensures is_log { IsLog self.new.log }
@@ -224,7 +243,8 @@ impl Search {
         requires exist { IsUpTo self.old.variables want.now }
         ensures yes { IfYes result (IsSolution self.new.variables self.new.log want.now) }
         ensures refuted { IfNo result (λ _. HasNoSolution self.new.log want.now) }
-        ensures gains { Gains self.new.variables budget want.now self.old.log self.new.log (outcome result) }
+        ensures gains { Gains self.new.variables budget want.now self.old.log self.new.log
+            (outcome result) }
         ensures no_original { HasNoOriginal (gained self.old.log self.new.log) }
         ensures variables { self.new.variables ≡ self.old.variables }
     {

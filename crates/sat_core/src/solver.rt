@@ -3,11 +3,13 @@ ghost use Rattle.std.specs.List.{AllByRecursion};
 ghost use Rattle.sat_log.specs.Clause.{HasDistinctVariables};
 ghost use Rattle.sat_log.specs.Checking.{IsUpTo, AreUpTo};
 ghost use Rattle.sat_log.specs.Kept.{original, AreProper};
+ghost use Rattle.sat_log.specs.Learned.{AllFresh};
 ghost use Rattle.sat_core.specs.Assignment.{IsSolution, HasNoSolution};
-ghost use Rattle.sat_core.specs.Gained.{gained, HasNoOriginal};
+ghost use Rattle.sat_core.specs.Gained.{gained, HasNoOriginal, AreLearned};
 ghost use Rattle.sat_core.specs.Gains.{outcome, Gains};
 ghost use Rattle.sat_core.specs.Verdicts.{IfYes, IfNo};
 
+use crate::laws::learned_lines_are_fresh;
 use crate::search::Search;
 use crate::{Budget, Verdict};
 use sat_log::{Log, SLits};
@@ -22,15 +24,14 @@ pub struct Solver {
 }
 
 impl Model for Solver {
-    ghost use Rattle.std.specs.Prelude.{◌≡◌};
     ghost use Rattle.sat_core.specs.Contents.{Contents};
-    ghost use Rattle.sat_core.specs.Trail.{top};
+    ghost use Rattle.sat_core.specs.Search.{IsAtRest};
 
     ghost Value = { Contents };
 
     ghost view = { λ s. record { variables = s.search.variables; log = s.search.log } };
 
-    ghost invariant = { λ s. top s.search.entries ≡ 0 };
+    ghost invariant = { λ s. IsAtRest s.search };
 }
 
 impl Solver {
@@ -53,7 +54,10 @@ impl Solver {
     ///
     /// `AllocError` where memory is refused; the solver stays as it was.
     pub fn new_var(&mut self) -> Result<u64, AllocError>
-        ensures ok { OnOk result (self.new ≡ record { variables = self.old.variables + 1; log = self.old.log }) }
+        ensures ok { OnOk result (self.new ≡ record {
+          variables = self.old.variables + 1;
+          log = self.old.log;
+        }) }
         ensures var { IfOk result (λ var. var ≡ self.new.variables) }
         ensures err { OnErr result (self.new ≡ self.old) }
     {
@@ -70,7 +74,10 @@ impl Solver {
         requires nonempty { lits.now ≢ [] }
         requires distinct { HasDistinctVariables lits.now }
         requires exist { IsUpTo self.old.variables lits.now }
-        ensures ok { OnOk result (self.new ≡ record { variables = self.old.variables; log = self.old.log ++ original lits.now ∷ [] }) }
+        ensures ok { OnOk result (self.new ≡ record {
+          variables = self.old.variables;
+          log = self.old.log ++ original lits.now ∷ [];
+        }) }
         ensures id { IfOk result (λ id. id ≡ length self.new.log) }
         ensures err { OnErr result (self.new ≡ self.old) }
     {
@@ -85,7 +92,10 @@ impl Solver {
     pub fn add_clauses(&mut self, clauses: &[SLits]) -> Result<(), AllocError>
         requires proper { AreProper clauses.now }
         requires exist { AllByRecursion (IsUpTo self.old.variables) clauses.now }
-        ensures ok { OnOk result (self.new ≡ record { variables = self.old.variables; log = self.old.log ++ map original clauses.now }) }
+        ensures ok { OnOk result (self.new ≡ record {
+          variables = self.old.variables;
+          log = self.old.log ++ map original clauses.now;
+        }) }
         ensures err { OnErr result (self.new ≡ self.old) }
     {
         self.search.add_clauses(clauses)
@@ -101,8 +111,12 @@ impl Solver {
 
     /// The clauses, and what was learned from them.
     pub fn log(&self) -> &Log
-        ensures { result.now ≡ self.now.log }
+        ensures value { result.now ≡ self.now.log }
+        // Each conflict line is needed and drawn over the lines before it, and so fresh.
+        ensures learned { AreLearned [] self.now.log }
+        ensures fresh { AllFresh [] self.now.log }
     {
+        learned_lines_are_fresh();
         self.search.log()
     }
 
@@ -118,7 +132,8 @@ impl Solver {
         ensures yes { IfYes result (IsSolution self.new.variables self.new.log want.now) }
         ensures refuted { IfNo result (λ _. HasNoSolution self.new.log want.now) }
         // What is gained, whatever is answered.
-        ensures gains { Gains self.new.variables budget want.now self.old.log self.new.log (outcome result) }
+        ensures gains { Gains self.new.variables budget want.now self.old.log self.new.log
+            (outcome result) }
         ensures no_original { HasNoOriginal (gained self.old.log self.new.log) }
         ensures variables { self.new.variables ≡ self.old.variables }
     {

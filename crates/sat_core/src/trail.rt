@@ -39,9 +39,13 @@ impl Model for Trail {
 
     ghost Value = { Trailed };
 
-    ghost view = { λ t. record { variables = t.variables; entries = map (entry_of t.levels.items t.reasons.items) (reverse t.trail.items) } };
+    ghost view = { λ t. record {
+      variables = t.variables;
+      entries = map (entry_of t.levels.items t.reasons.items) (reverse t.trail.items);
+    } };
 
-    ghost invariant = { λ t. KeepsTrail t.variables t.truths.items t.levels.items t.reasons.items (reverse t.trail.items) (vec_capacity t.trail) };
+    ghost invariant = { λ t. KeepsTrail t.variables t.truths.items t.levels.items t.reasons.items
+        (reverse t.trail.items) (vec_capacity t.trail) };
 }
 
 impl Trail {
@@ -138,7 +142,8 @@ impl Trail {
     /// `AllocError` where memory is refused.
     pub(crate) fn values(&self, alloc: Global) -> Result<Vec<bool>, AllocError>
         ensures one_each { IfOk result (λ v. length v.items ≡ self.now.variables) }
-        ensures true_ { IfOk result (λ v. AreTrue (assignment v.items) (literals self.now.entries)) }
+        ensures true_ { IfOk result (λ v. AreTrue (assignment v.items)
+            (literals self.now.entries)) }
     {
         let mut values = Vec::with_capacity(alloc, self.variables as usize)?;
         for var in 0..self.variables {
@@ -153,7 +158,10 @@ impl Trail {
     ///
     /// `AllocError` where memory is refused; the trail stays as it was.
     pub(crate) fn add_variable(&mut self) -> Result<(), AllocError>
-        ensures ok { OnOk result (self.new ≡ record { variables = self.old.variables + 1; entries = self.old.entries }) }
+        ensures ok { OnOk result (self.new ≡ record {
+          variables = self.old.variables + 1;
+          entries = self.old.entries;
+        }) }
         ensures err { OnErr result (self.new ≡ self.old) }
     {
         self.truths.reserve(2)?;
@@ -173,7 +181,11 @@ impl Trail {
         requires exists { literal.var ≤ self.old.variables }
         requires unset { IsUnset (literals self.old.entries) literal }
         requires level { top self.old.entries ≤ length self.old.entries }
-        ensures entries { self.new.entries ≡ record { literal = literal; level = top self.old.entries + 1; reason = None } ∷ self.old.entries }
+        ensures entries { self.new.entries ≡ record {
+          literal = literal;
+          level = top self.old.entries + 1;
+          reason = None;
+        } ∷ self.old.entries }
         ensures room { length self.new.entries ≤ places self.new.variables }
         ensures variables { self.new.variables ≡ self.old.variables }
     {
@@ -184,7 +196,11 @@ impl Trail {
     pub(crate) fn imply(&mut self, literal: SLit, reason: u64)
         requires exists { literal.var ≤ self.old.variables }
         requires unset { IsUnset (literals self.old.entries) literal }
-        ensures entries { self.new.entries ≡ record { literal = literal; level = top self.old.entries; reason = Some reason } ∷ self.old.entries }
+        ensures entries { self.new.entries ≡ record {
+          literal = literal;
+          level = top self.old.entries;
+          reason = Some reason;
+        } ∷ self.old.entries }
         ensures room { length self.new.entries ≤ places self.new.variables }
         ensures variables { self.new.variables ≡ self.old.variables }
     {
@@ -205,7 +221,11 @@ impl Trail {
     fn push(&mut self, literal: SLit, level: u64, reason: Option<u64>)
         requires exists { literal.var ≤ self.old.variables }
         requires unset { IsUnset (literals self.old.entries) literal }
-        ensures entries { self.new.entries ≡ record { literal = literal; level = level; reason = reason } ∷ self.old.entries }
+        ensures entries { self.new.entries ≡ record {
+          literal = literal;
+          level = level;
+          reason = reason;
+        } ∷ self.old.entries }
         ensures room { length self.new.entries ≤ places self.new.variables }
         ensures variables { self.new.variables ≡ self.old.variables }
     {

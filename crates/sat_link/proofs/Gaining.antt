@@ -83,21 +83,24 @@ no_final_after old mid new adds longer n =
 
 -- What a search ends with, it ends with after originals.
 
-refusal_after : (old mid new : List LogLine) (want : List Literal) (id : ℕ) → AddsOriginals old mid → IsRefusal mid new want id → IsRefusal old new want id
-refusal_after old mid new want id adds r = record {
+refusal_after : (old mid new : List LogLine) (want : List Literal) (id : ℕ) → AddsOriginals old mid → IsLonger mid new → IsRefusal mid new want id → IsRefusal old new want id
+refusal_after old mid new want id adds longer r = record {
   line = r.line;
   stands = r.stands;
   last = r.last;
   is_gained = omega (arith, r.is_gained, ap length adds.longer, length-append old adds.added);
   final = r.final;
   literals = r.literals;
+  others = adds.added ++ r.others;
+  gained_are = gained_after old mid new adds longer ∙ ap (λ ls. adds.added ++ ls) r.gained_are ∙ sym (append_assoc adds.added r.others (r.line ∷ []));
+  no_other = no_final adds.added r.others adds.all_originals r.no_other;
 }
 
 ends_after : (budget : Budget) (want : List Literal) (old mid new : List LogLine) (end : Outcome) → AddsOriginals old mid → IsLonger mid new → EndsAs budget want mid new end → EndsAs budget want old new end
 ends_after budget want old mid new found adds longer h =
     (no_final_after old mid new adds longer h.0, subst (IsBelow budget) (conflicts_after old mid new adds longer) h.1)
 ends_after budget want old mid new (refuted id) adds longer h =
-    (refusal_after old mid new want id adds h.0, subst (IsBelow budget) (conflicts_after old mid new adds longer) h.1)
+    (refusal_after old mid new want id adds longer h.0, subst (IsBelow budget) (conflicts_after old mid new adds longer) h.1)
 ends_after budget want old mid new (spent n) adds longer h =
     (no_final_after old mid new adds longer h.0, h.1, sym (conflicts_after old mid new adds longer) ∙ h.2)
 ends_after budget want old mid new stopped adds longer h =

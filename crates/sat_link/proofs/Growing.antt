@@ -1,5 +1,5 @@
 -- The nodes that have their clauses grow towards those of the gates.
-use Rattle.std.proofs.Common.{◌≡◌, ◌<◌, ◌+◌, ℕ, List, [], ◌∷◌, ◌++◌, length, take, sym, ap, subst, ◌∙◌, arith}
+use Rattle.std.proofs.Common.{◌≡◌, ◌<◌, ◌≤◌, ◌+◌, ℕ, max, List, [], ◌∷◌, ◌++◌, length, take, sym, ap, subst, ◌∙◌, arith}
 use Rattle.std.proofs.lemmas.List.{take_more, length_push}
 use Rattle.gates.specs.declared.node.Node.{Node}
 use Rattle.gates.specs.declared.node.Node.TheVariants.{True}
@@ -43,21 +43,31 @@ next_prefix nodes gates n y grows count below at =
 
 -- the next node got its clauses
 pub towards_next : (gates : List Node) (start old new : Contents) (n : ℕ) (y : Node) → GrowsTowards gates start old → length old.nodes ≡ n → n < length gates → y ≡ node_at gates n
-    → new.nodes ≡ old.nodes ++ y ∷ [] → AddsOriginals old.log new.log → GrowsTowards gates start new
-towards_next gates start old new n y t count below at more adds = record {
+    → new.nodes ≡ old.nodes ++ y ∷ [] → new.variables ≡ max old.variables (length new.nodes) → AddsOriginals old.log new.log → GrowsTowards gates start new
+towards_next gates start old new n y t count below at more variables adds = record {
   grown = subst (Grows start.nodes) (sym more) (Grows-trans t.grown (Grows-append old.nodes (y ∷ [])));
   prefix = subst (λ ns. Grows ns gates) (sym more) (next_prefix old.nodes gates n y t.prefix count below at);
+  no_fewer = omega (arith, variables, t.no_fewer);
+  no_more = omega (arith, variables, t.no_more, count, below, ap length more, length_push old.nodes y);
   log = AddsOriginals-trans start.log old.log new.log t.log adds;
 }
 
 -- memory was refused for it
-pub towards_stopped : (gates : List Node) (start old new : Contents) → GrowsTowards gates start old → new.nodes ≡ old.nodes → AddsOriginals old.log new.log → GrowsTowards gates start new
-towards_stopped gates start old new t same adds = record {
+pub towards_stopped : (gates : List Node) (start old new : Contents) → GrowsTowards gates start old → new.nodes ≡ old.nodes → start.variables ≤ new.variables → new.variables ≤ max start.variables (length gates) → AddsOriginals old.log new.log → GrowsTowards gates start new
+towards_stopped gates start old new t same no_fewer no_more adds = record {
   grown = subst (Grows start.nodes) (sym same) t.grown;
   prefix = subst (λ ns. Grows ns gates) (sym same) t.prefix;
+  no_fewer = no_fewer;
+  no_more = no_more;
   log = AddsOriginals-trans start.log old.log new.log t.log adds;
 }
 
 -- nothing was done yet
 pub towards_start : (gates : List Node) (start : Contents) → Grows start.nodes gates → GrowsTowards gates start start
-towards_start gates start grows = record { grown = Grows-refl start.nodes; prefix = grows; log = AddsOriginals-refl start.log }
+towards_start gates start grows = record {
+  grown = Grows-refl start.nodes;
+  prefix = grows;
+  no_fewer = omega arith;
+  no_more = omega arith;
+  log = AddsOriginals-refl start.log;
+}

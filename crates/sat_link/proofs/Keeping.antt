@@ -1,5 +1,5 @@
 -- What a kept solver keeps, from one node to the next.
-use Rattle.std.proofs.Common.{◌≡◌, ◌≢◌, ◌≤◌, ◌<◌, ◌+◌, ◌^◌, ℕ, suc, List, [], ◌∷◌, ◌++◌, length, map, sym, ap, subst, ◌∙◌, append_assoc, ⊎_elim, arith}
+use Rattle.std.proofs.Common.{◌≡◌, ◌≢◌, ◌≤◌, ◌<◌, ◌+◌, ◌^◌, ℕ, max, suc, List, [], ◌∷◌, ◌++◌, length, map, sym, ap, subst, ◌∙◌, append_assoc, ⊎_elim, arith}
 use Rattle.std.specs.List.{AllByRecursion}
 use Rattle.std.proofs.lemmas.List.{append-nil, length_push, get_or_append_left, get_or_push}
 use Rattle.std.proofs.lemmas.Bool.{cases_lt}
@@ -52,8 +52,8 @@ node_literals n (And a b) h fits =
 
 -- the next node got its clauses
 pub keeps_defined : (nodes new : List Node) (y : Node) (old solver : SolverContents) → KeepsClauses nodes old → StandsAt (length nodes) y → length nodes + 1 < 2 ^ 63 → new ≡ nodes ++ y ∷ []
-    → length nodes < solver.variables → solver.log ≡ old.log ++ map original (clauses_of (length nodes) y) → KeepsClauses new solver
-keeps_defined nodes new y old solver k stands fits e exists added =
+    → solver.variables ≡ max old.variables (length nodes + 1) → solver.log ≡ old.log ++ map original (clauses_of (length nodes) y) → KeepsClauses new solver
+keeps_defined nodes new y old solver k stands fits e variables added =
     let cs = clauses_of (length nodes) y in
     subst (λ ns. KeepsClauses ns solver) (sym e) (
     record {
@@ -62,7 +62,8 @@ keeps_defined nodes new y old solver k stands fits e exists added =
           (λ above. let same : length nodes ≡ n = omega (arith, l, above, length_push nodes y) in
           subst (StandsAt n) (sym (get_or_push nodes y True n same)) (subst (λ m. StandsAt m y) same stands))
           (cases_lt n (length nodes));
-      variables = omega (arith, exists, length_push nodes y);
+      variables = omega (arith, variables, length_push nodes y);
+      spare = omega (arith, variables, k.spare, length_push nodes y);
       is_log = subst IsLog (sym added) (log-added old.log cs k.is_log (node_proper (length nodes) y stands) (node_literals (length nodes) y stands fits));
       clauses = ap originals added ∙ originals-added old.log cs ∙ ap (λ ds. ds ++ cs) k.clauses ∙ sym (definitions-push nodes y);
     }

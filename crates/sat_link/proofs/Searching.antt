@@ -1,5 +1,5 @@
 -- What a search leaves, and what it means over gates.
-use Rattle.std.proofs.Common.{◌≡◌, ◌≢◌, ◌≤◌, List, [], ◌∷◌, ◌++◌, length, refl, sym, ap, subst, ◌∙◌}
+use Rattle.std.proofs.Common.{◌≡◌, ◌≢◌, ◌≤◌, ◌+◌, List, [], ◌∷◌, ◌++◌, length, refl, sym, ap, subst, ◌∙◌}
 use Rattle.std.specs.Prelude.{option_to_list}
 use Rattle.std.proofs.lemmas.List.{append-nil}
 use Rattle.gates.specs.declared.node.Node.{Node}
@@ -29,6 +29,7 @@ pub keeps_searched : (nodes : List Node) (old solver : SolverContents) → Keeps
 keeps_searched nodes old solver k variables longer none log = record {
   placed = k.placed;
   variables = subst (λ n. length nodes ≤ n) (sym variables) k.variables;
+  spare = subst (λ n. n ≤ length nodes + 1) (sym variables) k.spare;
   is_log = log;
   clauses = same_originals old.log solver.log longer none ∙ k.clauses;
 }

@@ -1,4 +1,4 @@
-ghost use Rattle.std.specs.Prelude.{◌≡◌, ◌+◌, ◌^◌, ◌<◌, ◌≤◌, ◌++◌, map, IfOk, OnOk, OnErr};
+ghost use Rattle.std.specs.Prelude.{◌≡◌, ◌+◌, ◌^◌, ◌<◌, ◌≤◌, ◌++◌, max, map, IfOk, OnOk, OnErr};
 ghost use Rattle.gates.specs.Literal.{span};
 ghost use Rattle.gates.specs.Nodes.{StandsAt};
 ghost use Rattle.sat_log.specs.Kept.{original};
@@ -57,7 +57,8 @@ fn clauses(alloc: Global, n: u64, node: &Node) -> Result<Vec<SLits>, AllocError>
 fn add_variable(solver: &mut Solver, n: u64) -> Result<(), AllocError>
     requires next { n ≤ solver.old.variables }
     ensures exists { OnOk result (n < solver.new.variables) }
-    ensures stays { n ≤ solver.new.variables }
+    ensures ok { OnOk result (solver.new.variables ≡ max solver.old.variables (n + 1)) }
+    ensures err { OnErr result (solver.new.variables ≡ solver.old.variables) }
     ensures log { solver.new.log ≡ solver.old.log }
 {
     if n < solver.variables() {
@@ -77,9 +78,11 @@ pub(crate) fn define(
     requires stands { StandsAt n node.now }
     requires fits { n + 1 < 2 ^ 63 }
     requires next { n ≤ solver.old.variables }
-    ensures exists { OnOk result (n < solver.new.variables) }
-    ensures stays { n ≤ solver.new.variables }
-    ensures ok { OnOk result (solver.new.log ≡ solver.old.log ++ map original (clauses_of n node.now)) }
+    ensures variables { OnOk result (solver.new.variables ≡ max solver.old.variables (n + 1)) }
+    ensures no_fewer { solver.old.variables ≤ solver.new.variables }
+    ensures no_more { solver.new.variables ≤ max solver.old.variables (n + 1) }
+    ensures ok { OnOk result (solver.new.log ≡
+        solver.old.log ++ map original (clauses_of n node.now)) }
     ensures err { OnErr result (solver.new.log ≡ solver.old.log) }
 {
     add_variable(solver, n)?;

@@ -1,9 +1,11 @@
-ghost use Rattle.std.specs.Prelude.{◌≡◌, ◌+◌, ◌++◌, ◌∷◌, ◌≤◌, [], length, count_by, IfOk, OnOk, OnErr};
+ghost use Rattle.std.specs.Prelude.{◌≡◌, ◌+◌, ◌++◌, ◌∷◌, ◌≤◌, [], length, max, count_by, IfOk, OnOk, OnErr};
 ghost use Rattle.gates.specs.Nodes.{StandsAt, WellFormed, Grows, AllBelong, is_conjunction};
 ghost use Rattle.sat_log.specs.Clause.{HasDistinctVariables};
 ghost use Rattle.sat_log.specs.Checking.{IsUpTo};
 ghost use Rattle.sat_log.specs.Accepted.{originals};
+ghost use Rattle.sat_log.specs.Learned.{AllFresh};
 ghost use Rattle.sat_core.specs.Assignment.{IsSolution as IsAssignment, HasNoSolution as HasNoAssignment};
+ghost use Rattle.sat_core.specs.Gained.{AreLearned};
 ghost use Rattle.sat_core.specs.Gains.{Gains, outcome as outcome_found};
 ghost use Rattle.sat_core.specs.Verdicts.{IfYes as IfFoundYes, IfNo as IfFoundNo};
 ghost use Rattle.sat_link.specs.Encoding.{all_encoded};
@@ -34,7 +36,11 @@ impl Model for Kept {
 
     ghost Value = { Contents };
 
-    ghost view = { λ k. record { variables = k.solver.variables; nodes = k.nodes.items; log = k.solver.log } };
+    ghost view = { λ k. record {
+      variables = k.solver.variables;
+      nodes = k.nodes.items;
+      log = k.solver.log;
+    } };
 
     ghost invariant = { λ k. KeepsClauses k.nodes.items k.solver };
 }
@@ -68,6 +74,10 @@ impl Kept {
         requires { StandsAt (length self.old.nodes) node }
         ensures ok { OnOk result (self.new.nodes ≡ self.old.nodes ++ node ∷ []) }
         ensures err { OnErr result (self.new.nodes ≡ self.old.nodes) }
+        ensures variables { OnOk result
+            (self.new.variables ≡ max self.old.variables (length self.new.nodes)) }
+        ensures no_fewer { self.old.variables ≤ self.new.variables }
+        ensures no_more { self.new.variables ≤ max self.old.variables (length self.old.nodes + 1) }
         ensures log { AddsOriginals self.old.log self.new.log }
         ensures kept { HasDefinitions self.new }
     {
@@ -82,6 +92,8 @@ impl Kept {
     fn define_all(&mut self, g: &Gates) -> Result<(), AllocError>
         requires { Grows self.old.nodes g.now }
         ensures nodes { OnOk result (self.new.nodes ≡ g.now) }
+        ensures variables { OnOk result
+            (self.new.variables ≡ max self.old.variables (length g.now)) }
         ensures towards { GrowsTowards g.now self.old self.new }
         ensures kept { HasDefinitions self.new }
         ensures well_formed { WellFormed g.now }
@@ -97,9 +109,10 @@ impl Kept {
         requires distinct { HasDistinctVariables want.now }
         requires exist { IsUpTo (length self.old.nodes) want.now }
         ensures yes { IfFoundYes result (IsAssignment self.new.variables self.new.log want.now) }
-        ensures enough { length self.new.nodes ≤ self.new.variables }
+        ensures variables { self.new.variables ≡ self.old.variables }
         ensures refuted { IfFoundNo result (λ _. HasNoAssignment self.new.log want.now) }
-        ensures gains { Gains self.new.variables budget want.now self.old.log self.new.log (outcome_found result) }
+        ensures gains { Gains self.new.variables budget want.now self.old.log self.new.log
+            (outcome_found result) }
         ensures nodes { self.new.nodes ≡ self.old.nodes }
         ensures kept { HasDefinitions self.new }
     {
@@ -123,7 +136,13 @@ impl Kept {
         ensures yes { IfYes result (IsSolution g.now want.now) }
         ensures refuted { IfNo result (λ _. HasNoSolution g.now want.now) }
         // What is gained, whatever is answered.
-        ensures gains { Gains self.new.variables budget (all_encoded want.now) self.old.log self.new.log (outcome result) }
+        ensures gains { Gains self.new.variables budget
+            (all_encoded want.now) self.old.log self.new.log (outcome result) }
+        // How many variables there are.
+        ensures variables { OnOk result
+            (self.new.variables ≡ max self.old.variables (length g.now)) }
+        ensures no_fewer { self.old.variables ≤ self.new.variables }
+        ensures no_more { self.new.variables ≤ max self.old.variables (length g.now) }
         // Which nodes have their clauses, and that the clauses define them and say no more.
         ensures nodes { OnOk result (self.new.nodes ≡ g.now) }
         ensures grown { Grows self.old.nodes self.new.nodes }
@@ -143,6 +162,8 @@ impl Kept {
         ensures value { result.now ≡ self.now.log }
         ensures kept { HasDefinitions self.now }
         ensures definitional { IsDefinitional self.now.nodes (originals self.now.log) }
+        ensures learned { AreLearned [] self.now.log }
+        ensures fresh { AllFresh [] self.now.log }
     {
         self.solver.log()
     }

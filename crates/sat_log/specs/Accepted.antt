@@ -26,7 +26,8 @@ abbrev pub Refutes : List LogLine → List Literal → List ℕ → Type 0
 Refutes log set [] = ⊥
 Refutes log set (id ∷ []) = (c : List Literal) × (clause_at log id ≡ Some c) × IsFalsified set c
 Refutes log set (id ∷ next ∷ ids) =
-    (c : List Literal) × (u : Literal) × (clause_at log id ≡ Some c) × IsUnit set c u × Refutes log (set ++ u ∷ []) (next ∷ ids)
+    (c : List Literal) × (u : Literal) × (clause_at log id ≡ Some c) × IsUnit set c u ×
+    Refutes log (set ++ u ∷ []) (next ∷ ids)
 
 -- A line is accepted over the lines before it: its variables are distinct, and its hints refute that
 -- all of its literals are false.

@@ -15,7 +15,8 @@ is_set set l = is_numbered set (packed l)
 -- whether the literals can be set false one after another, none of their variables being set
 abbrev pub can_assume : List Literal → List Literal → Bool
 can_assume set [] = true
-can_assume set (l ∷ c) = if is_set set l || is_set set (negated l) then false else can_assume (set ++ negated l ∷ []) c
+can_assume set (l ∷ c) = if is_set set l || is_set set (negated l) then false
+    else can_assume (set ++ negated l ∷ []) c
 
 -- a look at what is left of a clause, after one literal that is unset
 abbrev pub look_on : List Literal → Literal → List Literal → Look
@@ -25,7 +26,8 @@ look_on set u (l ∷ c) = if is_set set (negated l) then look_on set u c else Un
 -- a look at a clause: false, unit, or neither
 abbrev pub look : List Literal → List Literal → Look
 look set [] = Falsified
-look set (l ∷ c) = if is_set set (negated l) then look set c else (if is_set set l then Unresolved else look_on set l c)
+look set (l ∷ c) = if is_set set (negated l) then look set c
+    else (if is_set set l then Unresolved else look_on set l c)
 
 -- a look at a clause, if there is one
 abbrev pub look_if : List Literal → Option (List Literal) → Look

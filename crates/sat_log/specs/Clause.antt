@@ -50,7 +50,8 @@ IsFalsified set c = AllByRecursion (IsFalse set) c
 -- one of its literals is unset, and all others are false
 abbrev pub IsUnit : List Literal → List Literal → Literal → Type 0
 IsUnit set c u =
-    (front : List Literal) × (back : List Literal) × (c ≡ front ++ u ∷ back) × IsFalsified set front × IsUnset set u × IsFalsified set back
+    (front : List Literal) × (back : List Literal) × (c ≡ front ++ u ∷ back) × IsFalsified set front ×
+    IsUnset set u × IsFalsified set back
 
 -- no literal is set together with its negation
 abbrev pub IsConsistent : List Literal → Type 0

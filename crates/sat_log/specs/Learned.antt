@@ -55,7 +55,8 @@ abbrev pub EachIsUsed : List LogLine → List Literal → List ℕ → Type 0
 EachIsUsed log set [] = Unit {0}
 EachIsUsed log set (id ∷ []) = Unit {0}
 EachIsUsed log set (id ∷ next ∷ ids) =
-    (c : List Literal) × (u : Literal) × (clause_at log id ≡ Some c) × IsUnit set c u × StandsInSome log (next ∷ ids) (negated u) × EachIsUsed log (set ++ u ∷ []) (next ∷ ids)
+    (c : List Literal) × (u : Literal) × (clause_at log id ≡ Some c) × IsUnit set c u ×
+    StandsInSome log (next ∷ ids) (negated u) × EachIsUsed log (set ++ u ∷ []) (next ∷ ids)
 
 -- A line is drawn from its hints: each of its literals stands in one of them, and each literal that
 -- they set on the way to the conflict is used by a later one.
@@ -85,4 +86,5 @@ IsFreshOfKind Final log c = Unit {0}
 -- each conflict line that was gained is fresh over the clauses before it
 abbrev pub AllFresh : List LogLine → List LogLine → Type 0
 AllFresh before [] = Unit {0}
-AllFresh before (line ∷ gained) = IsFreshOfKind line.kind before line.lits × AllFresh (before ++ line ∷ []) gained
+AllFresh before (line ∷ gained) = IsFreshOfKind line.kind before line.lits ×
+    AllFresh (before ++ line ∷ []) gained

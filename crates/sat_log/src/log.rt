@@ -201,7 +201,8 @@ impl Log {
     /// log stays as it was.
     pub fn extend(&mut self, line: LogLine) -> Result<u64, AppendFault>
         ensures accepted { OnOk result (IsOfKind line.kind self.old line) }
-        ensures refused { result ≡ Err AppendFault.NotAccepted → ¬ IsOfKind line.kind self.old line }
+        ensures refused { result ≡ Err AppendFault.NotAccepted →
+            ¬ IsOfKind line.kind self.old line }
         ensures ok { OnOk result (self.new ≡ self.old ++ line ∷ []) }
         ensures id { IfOk result (λ id. id ≡ length self.new) }
         ensures err { OnErr result (self.new ≡ self.old) }

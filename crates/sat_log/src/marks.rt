@@ -38,7 +38,8 @@ impl Model for Marks {
 
     ghost view = { λ m. record { room = m.room; far = m.far.keys; set = m.trail.items } };
 
-    ghost invariant = { λ m. Agrees m.room m.far.keys m.truths.items m.trail.items (vec_capacity m.trail) };
+    ghost invariant = { λ m. Agrees m.room m.far.keys m.truths.items m.trail.items
+        (vec_capacity m.trail) };
 }
 
 impl Marks {

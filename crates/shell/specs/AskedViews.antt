@@ -1,8 +1,7 @@
--- What the code's reading of the words stands for.
-use Rattle.shell.specs.declared.run.Named as code
-use Rattle.shell.specs.Sessions.{Asked, no_file, a_file, misused}
+-- What the words ask for, of the values that hold references to them.
+use Rattle.std.specs.Prelude.{option_copied}
+use Rattle.shell.specs.declared.asked.Wanted.{Wanted}
+use Rattle.shell.specs.Sessions.{Asked}
 
-abbrev pub asked_of : code.Named → Asked
-asked_of code.TheVariants.Nothing = no_file
-asked_of (code.TheVariants.File file) = a_file file.now
-asked_of code.TheVariants.Misused = misused
+abbrev pub asked_of : Wanted → Asked
+asked_of wanted = record { prompts = wanted.prompts; script = option_copied wanted.script; model = option_copied wanted.model }

@@ -1,86 +1,121 @@
--- What a line does, and the sessions of the shell.
-use Rattle.std.specs.Prelude.{if◌then◌else◌, ◌≡◌, ◌+◌, ◌⊎◌, ℕ, List, [], ◌∷◌, ◌++◌, Option, Some, None, Result, Ok, Err, ◌==◌, MatchBool}
-use Rattle.outside.specs.Lines.{Reads, HasCause}
-use Rattle.outside.specs.declared.source.Line as line
+-- A session: the words of the program, and then line after line of the input.
+use Rattle.std.specs.Prelude.{◌≡◌, ◌+◌, ◌==◌, ℕ, Bool, true, false, List, [], ◌∷◌, ◌++◌, Option, Some, None, Result, Ok, Err, codes, is_some, if◌then◌else◌}
+use Rattle.std.specs.List.{list_all}
+use Rattle.std.specs.Str.{bytes_eq}
+use Rattle.cmd_table.specs.Options.{begins_with_dash}
+use Rattle.outside.specs.declared.source.Line.{Line}
+use Rattle.outside.specs.declared.source.Line.TheVariants as lines
 use Rattle.outside.specs.declared.source.LineFault.{LineFault}
-use Rattle.outside.specs.declared.source.LineFault.TheVariants as line_fault
-use Rattle.shell.specs.declared.event.Refusal.TheVariants as refusal
-use Rattle.shell.specs.declared.event.Event.{Event}
-use Rattle.shell.specs.declared.event.Event.TheVariants.{Refused, Usage}
-use Rattle.shell.specs.declared.next.Next.{Next}
-use Rattle.shell.specs.declared.next.Next.TheVariants.{Go, Stop}
-use Rattle.shell.specs.Commands.{Command, nothing, quit, execute, check_log, unknown, command_of, begins_with}
-use Rattle.outside.specs.Told.{Disk, Input}
-use Rattle.shell.specs.Worlds.{KeepsSession, State, World, fresh}
-use Rattle.shell.specs.ExecuteTrace.{Executes}
-use Rattle.shell.specs.CheckLog.{ChecksLog}
+use Rattle.outside.specs.declared.source.LineFault.TheVariants as faults
+use Rattle.shell_lang.specs.declared.fault.LangFault.{LangFault}
+use Rattle.shell_lang.specs.Bytes.{is_blank}
+use Rattle.shell_lang.specs.Keyed.{with_name}
+use Rattle.shell_lang.specs.Past.{remembering}
+use Rattle.shell_lang.specs.Recall.{recalled}
+use Rattle.shell_world.specs.declared.end.End.{End}
+use Rattle.shell_world.specs.declared.end.End.TheVariants as ends
+use Rattle.shell_world.specs.declared.event.Event.{Event}
+use Rattle.shell_world.specs.declared.event.Event.TheVariants as event
+use Rattle.shell_world.specs.declared.event.ShellEvent.TheVariants as shell
+use Rattle.shell_world.specs.declared.refusal.Refusal.TheVariants as refusal
+use Rattle.shell_world.specs.declared.state.State.{State}
+use Rattle.shell_world.specs.Processes.{Becomes, Chain, Either, Ends, EndsSaying, ForSome, Knowing, LacksMemory, Process, Refuses, SaysIf, Then}
+use Rattle.shell_world.specs.Scenes.{Scene, goes_on}
+use Rattle.shell_world.specs.Steps.{TakesLine}
+use Rattle.shell.specs.Lines.{DoesLine, Sourcing}
 
--- what a command does: the events, the session and the files after it, and whether the session goes on
-abbrev pub DoesCommand : Command → State → Disk → List Event → State → Disk → Next → Type 0
-DoesCommand nothing old disk events new disk' next = (events ≡ []) × (new ≡ old) × (disk' ≡ disk) × (next ≡ Go)
-DoesCommand quit old disk events new disk' next = (events ≡ []) × (new ≡ old) × (disk' ≡ disk) × (next ≡ Stop 0)
-DoesCommand unknown old disk events new disk' next = (events ≡ Refused refusal.NotBuilt ∷ []) × (new ≡ old) × (disk' ≡ disk) × (next ≡ Go)
-DoesCommand (execute file) old disk events new disk' next = (e : Event) × (events ≡ e ∷ []) × Executes old disk file e new disk' × (next ≡ Go)
-DoesCommand (check_log file) old disk events new disk' next = (e : Event) × (events ≡ e ∷ []) × ChecksLog file disk e disk' × (new ≡ old) × (next ≡ Go)
+-- the line is remembered, unless it is blank
+abbrev pub remembered : List ℕ → State → State
+remembered line state = if list_all is_blank line then state else record state { past = remembering state.past line }
 
--- what a line does. Memory may be refused while the line is cut into words, which ends the session
-abbrev pub Does : State → Disk → List ℕ → List Event → State → Disk → Next → Type 0
-Does old disk text events new disk' next =
-    DoesCommand (command_of text) old disk events new disk' next
-    ⊎ ((events ≡ Refused refusal.NoMemory ∷ []) × (new ≡ old) × (disk' ≡ disk) × (next ≡ Stop 5))
+-- a line that was recalled is remembered and done; sixteen scripts may be nested in it
+abbrev pub DoesRecalled : Result (List ℕ) LangFault → Process
+DoesRecalled (Ok line) = Then (Becomes (remembered line)) (DoesLine 16 line)
+DoesRecalled (Err fault) = Refuses (refusal.Language fault)
 
--- what is done about a line, or about what was read in its place; 1,000,000 lines may come
-abbrev pub Treats : ℕ → Result line.Line LineFault → World → List Event → World → Next → Type 0
-Treats count (Ok line.TheVariants.End) old events new next = (events ≡ []) × KeepsSession old new × (next ≡ Stop 0)
-Treats count (Ok (line.TheVariants.Line text)) old events new next =
-    MatchBool (count == 1000000)
-    ((events ≡ Refused refusal.TooManyLines ∷ []) × KeepsSession old new × (next ≡ Stop 3))
-    (Does old.state old.disk text events new.state new.disk next)
-Treats count (Err line_fault.ReadFault) old events new next = (events ≡ Refused refusal.InputFailed ∷ []) × KeepsSession old new × (next ≡ Stop 3)
-Treats count (Err line_fault.TooLong) old events new next = (events ≡ Refused refusal.LineTooLong ∷ []) × KeepsSession old new × (next ≡ Stop 3)
-Treats count (Err (line_fault.NoMemory e)) old events new next = (events ≡ Refused refusal.NoMemory ∷ []) × KeepsSession old new × (next ≡ Stop 5)
+-- what a line of input does
+abbrev pub DoesInput : List ℕ → Process
+DoesInput line = Either LacksMemory (Knowing (λ state. DoesRecalled (recalled state.past line)))
 
--- the next line is read, of at most 65,536 bytes, and treated
-abbrev pub Turns : ℕ → World → List Event → World → Next → Type 0
-Turns count old events new next =
-    (r : Result line.Line LineFault)
-    × Reads 65536 old.input.left r new.input.left × HasCause old.input.faults new.input.faults r
-    × Treats count r old events new next
+-- the input failed, or passed a limit
+abbrev pub Fails : LineFault → Process
+Fails faults.ReadFault = EndsSaying (event.Refused (refusal.Line faults.ReadFault)) ends.InputFailed
+Fails faults.TooLong = EndsSaying (event.Refused (refusal.Line faults.TooLong)) ends.InputFailed
+Fails (faults.NoMemory e) = LacksMemory
 
--- the turns of a session after so many lines, with all its events, to its status; where a sink fails at the text of a turn, it ends with 4
-pub data Runs : ℕ → World → List Event → World → ℕ → Type 0 where
-  ends : (count : ℕ) (old : World) (events : List Event) (new : World) (status : ℕ) → Turns count old events new (Stop status) → Runs count old events new status
-  breaks : (count : ℕ) (old : World) (events : List Event) (new : World) (next : Next) → Turns count old events new next → Runs count old events new 4
-  goes_on : (count : ℕ) (old : World) (first : List Event) (mid : World) (others : List Event) (new : World) (status : ℕ) → Turns count old first mid Go → Runs (count + 1) mid others new status → Runs count old (first ++ others) new status
+-- a line after so many others: 1,000,000 may come
+abbrev pub DoesNth : Bool → List ℕ → Process
+DoesNth true line = EndsSaying (event.Refused refusal.TooManyLines) ends.InputFailed
+DoesNth false line = DoesInput line
 
--- one event and no turn, and then the end with this status, or with 4 where its text could not be written
-abbrev pub EndsAtOnce : World → List Event → World → ℕ → Event → ℕ → Type 0
-EndsAtOnce old events new status e wanted = (events ≡ e ∷ []) × (new ≡ old) × ((status ≡ wanted) ⊎ (status ≡ 4))
+-- what is done about what was read
+abbrev pub Treats : ℕ → Result Line LineFault → Process
+Treats count (Ok lines.End) = Ends ends.Quits
+Treats count (Ok (lines.Line line)) = DoesNth (count == 1000000) line
+Treats count (Err fault) = Fails fault
 
--- a session on the model of this file, if there is one. Memory may be refused before the first line
-abbrev pub Opens : Option (List ℕ) → Disk → Input → List Event → World → ℕ → Type 0
-Opens file disk input events new status =
-    Runs 0 (fresh file disk input) events new status
-    ⊎ EndsAtOnce (fresh file disk input) events new status (Refused refusal.NoMemory) 5
+-- after so many lines, a prompt where they are wanted, and the next line
+abbrev pub Turn : Bool → ℕ → Process
+Turn prompts count =
+    Then (SaysIf prompts (event.Shell shell.Prompt)) (ForSome (λ answer. Then (TakesLine 65536 answer) (Treats count answer)))
 
--- what the words of the program ask for
-pub data Asked : Type 0 where
-  no_file : Asked
-  -- a model in the file of this name
-  a_file : List ℕ → Asked
-  misused : Asked
+-- the turns of a session after so many lines, up to the one that does not go on
+pub data Turns (prompts : Bool) : ℕ → Scene → List Event → End → Scene → Type 0 where
+  stops : (count : ℕ) (old : Scene) (events : List Event) (end : End) (new : Scene) → Turn prompts count old events end new → goes_on new.state end ≡ false → Turns prompts count old events end new
+  goes : (count : ℕ) (old : Scene) (first : List Event) (end : End) (mid : Scene) (others : List Event) (last : End) (new : Scene) → Turn prompts count old first end mid → goes_on mid.state end ≡ true → Turns prompts (count + 1) mid others last new → Turns prompts count old (first ++ others) last new
 
--- at most one word, the name of a file, which does not begin with `-`
-abbrev pub asked_by : List (List ℕ) → Asked
-asked_by [] = no_file
-asked_by (word ∷ []) = if begins_with 45 word then misused else a_file word
-asked_by _ = misused
+-- what the words of the program ask for: prompts, a script that is done first, and the model's file
+pub record Asked : Type 0 where
+  pub prompts : Bool
+  pub script : Option (List ℕ)
+  pub model : Option (List ℕ)
 
-abbrev pub SessionAsked : Asked → Disk → Input → List Event → World → ℕ → Type 0
-SessionAsked no_file disk input events new status = Opens None disk input events new status
-SessionAsked (a_file file) disk input events new status = Opens (Some file) disk input events new status
-SessionAsked misused disk input events new status = EndsAtOnce (fresh None disk input) events new status Usage 2
+-- nothing is asked for
+abbrev pub nothing_asked : Asked
+nothing_asked = record { prompts = false; script = None; model = None }
 
--- a session: the words of the program, its files and input, all events, the world after them, and the status
-abbrev pub Session : List (List ℕ) → Disk → Input → List Event → World → ℕ → Type 0
-Session words disk input events new status = SessionAsked (asked_by words) disk input events new status
+-- `-int`, `-source file` and a model's file, each once at most
+abbrev pub with_prompts : Asked → Option Asked
+with_prompts asked = if asked.prompts then None else Some (record asked { prompts = true })
+
+abbrev pub with_script : Asked → List ℕ → Option Asked
+with_script asked file = if is_some asked.script then None else Some (record asked { script = Some file })
+
+abbrev pub with_model_file : Asked → List ℕ → Option Asked
+with_model_file asked file =
+    if begins_with_dash file then None else (if is_some asked.model then None else Some (record asked { model = Some file }))
+
+-- one word, with no script behind it
+abbrev pub with_word : Asked → List ℕ → Option Asked
+with_word asked word = if bytes_eq word (codes "-int") then with_prompts asked else with_model_file asked word
+
+abbrev pub asked_by : Option Asked → List (List ℕ) → Option Asked
+asked_by None words = None
+asked_by (Some asked) [] = Some asked
+asked_by (Some asked) (word ∷ []) = with_word asked word
+asked_by (Some asked) (word ∷ next ∷ words) =
+    if bytes_eq word (codes "-source") then asked_by (with_script asked next) words
+    else asked_by (with_word asked word) (next ∷ words)
+
+-- the input's lines, or the end, after the script that is asked for
+abbrev pub Follows : Bool → Process
+Follows true = Turns true 0
+Follows false = Ends ends.Quits
+
+abbrev pub Starts : Bool → Option (List ℕ) → Process
+Starts prompts None = Turns prompts 0
+Starts prompts (Some file) =
+    Chain goes_on (Sourcing 16 (record { file = file; prompts = false; lenient = false; shows = false })) (Follows prompts)
+
+-- the variable `input_file` names the model's file
+abbrev pub naming : Option (List ℕ) → State → State
+naming None state = state
+naming (Some file) state = record state { vars = with_name state.vars (codes "input_file") file }
+
+abbrev pub SessionAsked : Option Asked → Process
+SessionAsked None = EndsSaying event.Usage ends.Misused
+SessionAsked (Some asked) = Either LacksMemory (Then (Becomes (naming asked.model)) (Starts asked.prompts asked.script))
+
+-- a session of these words
+abbrev pub Session : List (List ℕ) → Process
+Session words = SessionAsked (asked_by (Some nothing_asked) words)

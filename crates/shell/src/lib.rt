@@ -1,25 +1,22 @@
 #![tactic(auto)]
 //! The session of the shell, and the call that does all that the program does.
+//!
+//! `run_shell` is the program: its contract says that what was written, read and answered is a
+//! session of the program's words (`specs/Sessions.antt`). `Session::step_line` is one line of it.
 
-mod check_log;
-mod command;
-mod event;
-mod execute;
-mod files;
-mod judge;
+mod asked;
+mod echo;
+mod input;
 mod lines;
-mod model;
-mod names;
-mod next;
-mod replay;
+mod no_input;
+mod rows;
 mod run;
-mod sections;
+mod script;
 mod session;
-mod states;
-mod tell;
-#[cfg(test)]
-mod tests;
+mod text;
+mod topics;
 
-pub use next::Next;
-pub use run::run_shell;
+pub use rows::{COMMANDS, Command, commands_are_listed};
+pub use run::{run_shell, run_sound};
 pub use session::Session;
+pub use shell_world::Next;

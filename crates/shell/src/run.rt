@@ -1,20 +1,24 @@
-ghost use Rattle.std.specs.Prelude.{◌≡◌, ◌≢◌, ◌≤◌, ◌⊎◌, ◌∷◌, [], List, IfOk, None};
-ghost use Rattle.shell.specs.declared.event.Event.{Event};
-ghost use Rattle.shell.specs.declared.next.Next.{Next};
-ghost use Rattle.shell.specs.Worlds.{State, world_of};
-ghost use Rattle.shell.specs.Sessions.{asked_by, Opens, Runs, Turns};
-ghost use Rattle.shell.specs.Written.{Told, ToldAll, sinks_of};
-ghost use Rattle.shell.specs.Sessions.{Session as SessionOf};
-ghost use Rattle.std.specs.Option.{option_copied};
-ghost use Rattle.shell.specs.SessionViews.{state_of};
+ghost use Rattle.std.specs.Prelude.{◌≡◌, ◌≢◌, ◌+◌, ◌≤◌, ◌⊎◌, false, option_copied, IfOk, OnErr, OnOk};
+ghost use Rattle.shell_world.specs.declared.end.End.TheVariants as ends;
+ghost use Rattle.shell_world.specs.declared.end.Next.TheVariants.{Stop};
+ghost use Rattle.shell_world.specs.Processes.{EndsSaying};
+ghost use Rattle.shell_world.specs.Scenes.{after, fresh, goes_on};
+ghost use Rattle.shell_world.specs.Written.{Does};
 ghost use Rattle.shell.specs.AskedViews.{asked_of};
+ghost use Rattle.shell.specs.Closing.{Closes, Runs, told_of};
+ghost use Rattle.shell.specs.Sessions.{Fails, Session as SessionOf, SessionAsked, Starts, Treats, Turn, Turns, naming};
 
-use crate::command::begins_with;
-use crate::event::{Event, Refusal};
-use crate::next::Next;
-use crate::session::{Session, report};
-use crate::tell::tell;
-use outside::{Files, Line, LineFault, Sink, Source, Text, Words, read_line};
+use crate::asked::{Wanted, wanted_by};
+use crate::input::{DEPTH, do_input};
+use crate::lines::do_script;
+use crate::script::Script;
+use outside::{
+    Files, Line, LineFault, NullSink, Sink, SoundFiles, SoundSource, Source, Text, Words,
+};
+use shell_world::{
+    End, Event, Next, Outside, Refusal, ShellEvent, State, World, end_saying, lack_memory,
+    read_line, say_if,
+};
 use std::alloc::{AllocError, Global};
 use std::sync::ledger::Ledger;
 use step_count::Steps;
@@ -25,157 +29,232 @@ const LINE_LIMIT: usize = 65_536;
 /// A session has at most so many lines of input.
 const LINES: u64 = 1_000_000;
 
-/// The next line of input is read and treated, after so many others.
-#[tactic(auto, using(crate::proofs::TurnLemmas::turned, crate::proofs::TellLemmas::nothing_told))]
-fn turn<R: Source, F: Files, O: Sink, E: Sink, L: Ledger>(
+// Ends the session because no line was read.
+fn fail<W: Outside>(state: &State, world: &mut W, fault: LineFault) -> End
+    ensures { Does W.told (Fails fault) state.now world.old result state.now world.new }
+{
+    match fault {
+        LineFault::NoMemory(_) => lack_memory(state, world),
+        _ => {
+            let event = Event::Refused(Refusal::Line(fault));
+            end_saying(state, world, event, End::InputFailed)
+        }
+    }
+}
+
+// What is done about what was read, after so many lines.
+fn treat<W: Outside>(
     alloc: Global,
-    session: &mut Session,
+    state: &mut State,
+    world: &mut W,
     count: u64,
-    input: &mut R,
-    files: &mut F,
-    out: &mut O,
-    err: &mut E,
-    steps: &mut Steps<L>,
-) -> Next
-    ensures turns { (events : List Event) × (next : Next)
-        × Turns count (world_of (state_of session.old) (F.told files.old) (R.told input.old))
-        events (world_of (state_of session.new) (F.told files.new) (R.told input.new)) next
-        × Told events next result (sinks_of (O.told out.old) (E.told err.old)) (sinks_of (O.told out.new) (E.told err.new)) }
-    ensures out_count { (O.told out.old).faults ≤ (O.told out.new).faults }
-    ensures err_count { (E.told err.old).faults ≤ (E.told err.new).faults }
-    ensures last { count ≡ 1000000 → result ≢ Next.Go }
-    ensures steps { steps.new ≡ steps.old }
+    read: Result<Line, LineFault>,
+) -> End
+    requires count { state.old.past.count ≤ count }
+    requires most { count ≤ 1000000 }
+    ensures does { Does W.told (Treats count read) state.old world.old result state.new world.new }
+    ensures count { state.new.past.count ≤ count + 1 }
+    ensures last { count ≡ 1000000 → goes_on state.new result ≡ false }
 {
-    let line = match read_line(alloc, input, LINE_LIMIT) {
-        Ok(Line::End) => return Next::Stop(0),
-        Ok(Line::Line(line)) => line,
-        Err(LineFault::ReadFault) => {
-            return report(
-                &Event::Refused(Refusal::InputFailed),
-                Next::Stop(3),
-                out,
-                err,
-            );
+    match read {
+        Ok(Line::End) => End::Quits,
+        Ok(Line::Line(line)) => {
+            if count == LINES {
+                let event = Event::Refused(Refusal::TooManyLines);
+                return end_saying(state, world, event, End::InputFailed);
+            }
+            do_input(alloc, state, world, &line)
         }
-        Err(LineFault::TooLong) => {
-            return report(
-                &Event::Refused(Refusal::LineTooLong),
-                Next::Stop(3),
-                out,
-                err,
-            );
-        }
-        Err(LineFault::NoMemory(_)) => {
-            return report(&Event::Refused(Refusal::NoMemory), Next::Stop(5), out, err);
-        }
-    };
-    if count == LINES {
-        return report(
-            &Event::Refused(Refusal::TooManyLines),
-            Next::Stop(3),
-            out,
-            err,
-        );
-    }
-    session.step_line(&line, files, out, err, steps)
-}
-
-/// The model's file that the words of the program name, if they are of their form.
-enum Named<'a> {
-    Nothing,
-    File(&'a Text),
-    Misused,
-}
-
-/// What the words of the program say: at most the name of the model's file, which does not begin
-/// with `-`.
-fn model_file(words: &Words) -> Named<'_>
-    ensures { asked_of result ≡ asked_by words.now }
-{
-    match words.as_slice() {
-        [] => Named::Nothing,
-        [word] if !begins_with(b'-', word.as_slice()) => Named::File(word),
-        _ => Named::Misused,
+        Err(fault) => fail(state, world, fault),
     }
 }
 
-/// A session whose model is in the file that the words name.
-fn open(alloc: Global, file: Option<&Text>) -> Result<Session, AllocError>
-    ensures { IfOk result (λ s. state_of s ≡ record { input_file = option_copied file.entry; model = None }) }
-{
-    let mut session = Session::new(alloc)?;
-    if let Some(file) = file {
-        session.set_input_file(file.copy(alloc)?);
-    }
-    Ok(session)
-}
-
-/// The turns of a session from its first line to its end.
-fn turns<R: Source, F: Files, O: Sink, E: Sink, L: Ledger>(
+// The next line of input is read and treated, after so many others.
+fn turn<W: Outside>(
     alloc: Global,
-    session: &mut Session,
-    input: &mut R,
-    files: &mut F,
-    out: &mut O,
-    err: &mut E,
-    steps: &mut Steps<L>,
-) -> u8
-    ensures runs { (events : List Event) × (state : State)
-        × Runs 0 (world_of (state_of session.old) (F.told files.old) (R.told input.old))
-        events (world_of state (F.told files.new) (R.told input.new)) result
-        × ToldAll events result (sinks_of (O.told out.old) (E.told err.old)) (sinks_of (O.told out.new) (E.told err.new)) }
-    ensures steps { steps.new ≡ steps.old }
+    state: &mut State,
+    world: &mut W,
+    prompts: bool,
+    count: u64,
+) -> End
+    requires count { state.old.past.count ≤ count }
+    requires most { count ≤ 1000000 }
+    ensures does { Does W.told (Turn prompts count) state.old world.old result state.new world.new }
+    ensures count { state.new.past.count ≤ count + 1 }
+    ensures last { count ≡ 1000000 → goes_on state.new result ≡ false }
+{
+    let end = say_if(state, world, prompts, Event::Shell(ShellEvent::Prompt));
+    if !state.goes_along(end) {
+        return end;
+    }
+    let read = read_line(alloc, state, world, LINE_LIMIT);
+    treat(alloc, state, world, count, read)
+}
+
+// The lines of the input, up to the one that ends the session.
+fn do_turns<W: Outside>(alloc: Global, state: &mut State, world: &mut W, prompts: bool) -> End
+    requires { state.old.past.count ≡ 0 }
+    ensures does { Does W.told (Turns prompts 0) state.old world.old result state.new world.new }
+    ensures over { goes_on state.new result ≡ false }
 {
     let mut count = 0;
     loop {
-        match turn(alloc, session, count, input, files, out, err, steps) {
-            Next::Go => count += 1,
-            Next::Stop(status) => return status,
+        let end = turn(alloc, state, world, prompts, count);
+        if !state.goes_on(end) {
+            return end;
         }
+        count += 1;
     }
 }
 
-/// Tells one event, and gives the status that it ends the program with.
-fn end_with<O: Sink, E: Sink>(event: &Event, status: u8, out: &mut O, err: &mut E) -> u8
-    requires { status ≢ 4 }
-    ensures status { (result ≡ status) ⊎ (result ≡ 4) }
-    ensures told { ToldAll (event.now ∷ []) result (sinks_of (O.told out.old) (E.told err.old)) (sinks_of (O.told out.new) (E.told err.new)) }
-{
-    match tell(event, out, err) {
-        Ok(()) => status,
-        Err(_) => 4,
-    }
-}
-
-/// The session on the model of this file, if there is one.
-fn run_on<R: Source, F: Files, O: Sink, E: Sink, L: Ledger>(
+// The script that is asked for, and then the lines of the input, if they are asked for too.
+fn start<W: Outside>(
     alloc: Global,
-    file: Option<&Text>,
-    input: &mut R,
-    files: &mut F,
-    out: &mut O,
-    err: &mut E,
-    steps: &mut Steps<L>,
-) -> u8
-    ensures session { (events : List Event) × (state : State)
-        × Opens (option_copied file.entry) (F.told files.old) (R.told input.old)
-        events (world_of state (F.told files.new) (R.told input.new)) result
-        × ToldAll events result (sinks_of (O.told out.old) (E.told err.old)) (sinks_of (O.told out.new) (E.told err.new)) }
-    ensures steps { steps.new ≡ steps.old }
+    state: &mut State,
+    world: &mut W,
+    prompts: bool,
+    file: Option<Text>,
+) -> End
+    requires { state.old.past.count ≡ 0 }
+    ensures does { Does W.told (Starts prompts file)
+        state.old world.old result state.new world.new }
+    ensures over { goes_on state.new result ≡ false }
 {
-    let Ok(mut session) = open(alloc, file) else {
-        return end_with(&Event::Refused(Refusal::NoMemory), 5, out, err);
+    let Some(file) = file else {
+        return do_turns(alloc, state, world, prompts);
     };
-    turns(alloc, &mut session, input, files, out, err, steps)
+    let script = Script {
+        file,
+        prompts: false,
+        lenient: false,
+        shows: false,
+    };
+    let end = do_script(alloc, state, world, DEPTH, &script);
+    if !state.goes_on(end) {
+        return end;
+    }
+    if prompts {
+        do_turns(alloc, state, world, true)
+    } else {
+        End::Quits
+    }
+}
+
+// Names the model's file, if there is one.
+fn name_model(alloc: Global, state: &mut State, file: Option<&Text>) -> Result<(), AllocError>
+    ensures ok { OnOk result (state.new ≡ naming (option_copied file.entry) state.old) }
+    ensures err { OnErr result (state.new ≡ state.old) }
+{
+    let Some(file) = file else {
+        return Ok(());
+    };
+    let name = Text::from_slice(alloc, b"input_file")?;
+    match state.vars.set(&name, file) {
+        Ok(()) => Ok(()),
+        Err(_) => Err(AllocError),
+    }
+}
+
+// A copy of a text, if there is one.
+fn copy_of(alloc: Global, text: Option<&Text>) -> Result<Option<Text>, AllocError>
+    ensures { IfOk result (λ copy. copy ≡ option_copied text.entry) }
+{
+    match text {
+        Some(text) => Ok(Some(text.copy(alloc)?)),
+        None => Ok(None),
+    }
+}
+
+// A session that is asked for by right words.
+fn open<W: Outside>(alloc: Global, state: &mut State, world: &mut W, wanted: Wanted<'_>) -> End
+    requires { state.old.past.count ≡ 0 }
+    ensures does { Does W.told (SessionAsked (Some (asked_of wanted.entry)))
+        state.old world.old result state.new world.new }
+    ensures over { goes_on state.new result ≡ false }
+{
+    let Ok(script) = copy_of(alloc, wanted.script) else {
+        return lack_memory(state, world);
+    };
+    let Ok(()) = name_model(alloc, state, wanted.model) else {
+        return lack_memory(state, world);
+    };
+    start(alloc, state, world, wanted.prompts, script)
+}
+
+// Tells an event before there is a session; it stays with the caller.
+fn tell_fresh<W: Outside>(world: &mut W, event: &Event, wanted: End) -> End
+    requires { wanted ≢ ends.Cut }
+    ensures does { Does W.told (EndsSaying event.now wanted) fresh world.old result fresh world.new }
+    ensures ended { (result ≡ wanted) ⊎ (result ≡ ends.Cut) }
+{
+    match world.tell(event) {
+        Ok(()) => wanted,
+        Err(_) => End::Cut,
+    }
+}
+
+// Tells an event before there is a session.
+fn end_fresh<W: Outside>(world: &mut W, event: Event, wanted: End) -> End
+    requires { wanted ≢ ends.Cut }
+    ensures does { Does W.told (EndsSaying event wanted) fresh world.old result fresh world.new }
+    ensures ended { (result ≡ wanted) ⊎ (result ≡ ends.Cut) }
+{
+    tell_fresh(world, &event, wanted)
+}
+
+// The status of a session that did not begin.
+fn fresh_status(end: End) -> u8
+    requires { goes_on fresh end ≡ false }
+    ensures { after fresh end ≡ Stop result }
+{
+    match end {
+        End::Misused => 2,
+        End::InputFailed => 3,
+        End::Cut => 4,
+        End::NoMemory => 5,
+        End::Went | End::Refused | End::Quits => 0,
+    }
+}
+
+// The status that a session stops with.
+fn status_of(state: &State, end: End) -> u8
+    requires { goes_on state.now end ≡ false }
+    ensures { after state.now end ≡ Stop result }
+{
+    match state.after(end) {
+        Next::Stop(status) => status,
+        Next::Go => 0,
+    }
+}
+
+// A whole session of these words.
+fn run_words<W: Outside>(alloc: Global, world: &mut W, words: &Words) -> u8
+    ensures { Runs W.told (SessionOf words.now) world.old result world.new }
+{
+    let nothing = Wanted {
+        prompts: false,
+        script: None,
+        model: None,
+    };
+    let Some(wanted) = wanted_by(nothing, words.as_slice()) else {
+        return fresh_status(end_fresh(world, Event::Usage, End::Misused));
+    };
+    let Ok(mut state) = State::new(alloc) else {
+        let event = Event::Refused(Refusal::NoMemory);
+        return fresh_status(end_fresh(world, event, End::NoMemory));
+    };
+    let end = open(alloc, &mut state, world, wanted);
+    status_of(&state, end)
 }
 
 /// Does all that the program does: reads the input line by line, does what each line asks for, and
 /// answers the exit status.
 ///
-/// The words are those of the command line without the program's name. Events go to `out`, refusals
-/// to `err`. Statuses: 0 at `quit` or the end of the input, 2 where the words are not of their form,
-/// 3 where the input fails or passes a limit, 4 where a sink failed, 5 where memory was refused
-/// outside a command.
+/// The words are those of the command line without the program's name. The texts of events go to
+/// `out`, refusals to `err`, as they happen. Statuses: 0 at `quit` or at the end of the input or of
+/// the script, 1 where a command was refused while `on_failure_script_quits` is set, 2 where the
+/// words are not of their form, 3 where the input fails or passes a limit, 4 where a sink failed, 5
+/// where memory was refused outside a command.
 pub fn run_shell<R: Source, F: Files, O: Sink, E: Sink, L: Ledger>(
     alloc: Global,
     words: &Words,
@@ -185,16 +264,46 @@ pub fn run_shell<R: Source, F: Files, O: Sink, E: Sink, L: Ledger>(
     err: &mut E,
     steps: &mut Steps<L>,
 ) -> u8
-    // What is written is the text of a session of these words, this input and these files.
-    ensures session { (events : List Event) × (state : State)
-        × SessionOf words.now (F.told files.old) (R.told input.old)
-        events (world_of state (F.told files.new) (R.told input.new)) result
-        × ToldAll events result (sinks_of (O.told out.old) (E.told err.old)) (sinks_of (O.told out.new) (E.told err.new)) }
+    // What happened is a session of these words, and it was written as it happened.
+    ensures session { Closes (told_of (R.told input.old) (F.told files.old) (O.told out.old) (E.told err.old))
+        (SessionOf words.now) result
+        (told_of (R.told input.new) (F.told files.new) (O.told out.new) (E.told err.new)) }
     ensures steps { steps.new ≡ steps.old }
 {
-    match model_file(words) {
-        Named::Nothing => run_on(alloc, None, input, files, out, err, steps),
-        Named::File(file) => run_on(alloc, Some(file), input, files, out, err, steps),
-        Named::Misused => end_with(&Event::Usage, 2, out, err),
-    }
+    let mut world = World {
+        input,
+        files,
+        out,
+        err,
+    };
+    let status = run_words(alloc, &mut world, words);
+    let World {
+        input: _,
+        files: _,
+        out: _,
+        err: _,
+    } = world;
+    status
+}
+
+/// A session over objects that never fail, with nothing kept of what is written: it does not end with
+/// 4, the status of a sink that failed.
+pub fn run_sound<L: Ledger>(
+    alloc: Global,
+    words: &Words,
+    input: &mut SoundSource,
+    files: &mut SoundFiles,
+    steps: &mut Steps<L>,
+) -> u8
+    ensures { result ≢ 4 }
+{
+    run_shell(
+        alloc,
+        words,
+        input,
+        files,
+        &mut NullSink,
+        &mut NullSink,
+        steps,
+    )
 }

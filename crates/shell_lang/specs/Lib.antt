@@ -9,3 +9,4 @@ pub mod Marks
 pub mod Past
 pub mod Recall
 pub mod Runs
+pub mod Settings

@@ -1,6 +1,6 @@
-ghost use Rattle.std.specs.Prelude.{◌≡◌, ◌&&◌, [], nat_le, is_none, length, slice_get, option_copied, OnOk, OnErr, IfOk};
+ghost use Rattle.std.specs.Prelude.{◌≡◌, ◌&&◌, [], nat_le, is_none, length, option_copied, OnOk, OnErr, IfOk};
 ghost use Rattle.shell_lang.specs.Fault.{RefusedWhere};
-ghost use Rattle.shell_lang.specs.Keyed.{at_name, with_name, without_name, names_of, AreInOrder};
+ghost use Rattle.shell_lang.specs.Keyed.{at_name, with_name, without_name};
 
 use crate::LangFault;
 use outside::{Text, Words};
@@ -88,11 +88,10 @@ impl Aliases {
         self.words.get(name)
     }
 
-    /// The name at a place, from 0, in byte order.
-    pub fn name(&self, n: usize) -> Option<&Text>
-        ensures value { option_copied result ≡ slice_get (names_of self.now) n }
-        ensures order { AreInOrder self.now }
+    /// The names with their words, in the byte order of the names.
+    pub fn entries(&self) -> &BTreeMap<Text, Words>
+        ensures { result.now.entries ≡ self.now }
     {
-        self.words.keys().nth(n)
+        &self.words
     }
 }

@@ -80,4 +80,11 @@ impl History {
         }
         self.lines.get((n - lost - 1) as usize)
     }
+
+    /// The lines that are kept, the oldest first.
+    pub fn kept(&self) -> &VecDeque<Text>
+        ensures { result.now.items ≡ self.now.kept }
+    {
+        &self.lines
+    }
 }

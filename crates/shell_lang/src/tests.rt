@@ -44,16 +44,14 @@ fn shown_words(alloc: Global, words: &[Text]) -> Result<Text, AllocError> {
 // The first names of the variables and of the aliases.
 fn shown_names(alloc: Global, shell: &Shell) -> Result<Text, AllocError> {
     let mut text = Text::new(alloc);
-    for place in 0..20 {
-        if let Some(name) = shell.vars.name(place) {
-            text.extend(name.as_slice())?;
-            text.push(b' ')?;
-        }
-        if let Some(name) = shell.aliases.name(place) {
-            text.push(b'(')?;
-            text.extend(name.as_slice())?;
-            text.push(b')')?;
-        }
+    for (name, _) in shell.vars.entries().iter() {
+        text.extend(name.as_slice())?;
+        text.push(b' ')?;
+    }
+    for (name, _) in shell.aliases.entries().iter() {
+        text.push(b'(')?;
+        text.extend(name.as_slice())?;
+        text.push(b')')?;
     }
     Ok(text)
 }

@@ -1,6 +1,7 @@
-ghost use Rattle.std.specs.Prelude.{◌≡◌, slice_get, option_copied, IfOk, OnOk, OnErr};
+ghost use Rattle.std.specs.Prelude.{◌≡◌, Some, codes, option_copied, IfOk, OnOk, OnErr};
 ghost use Rattle.shell_lang.specs.Fault.{RefusedWhere};
-ghost use Rattle.shell_lang.specs.Keyed.{at_name, with_name, names_of, AreInOrder};
+ghost use Rattle.shell_lang.specs.Keyed.{at_name, with_name};
+ghost use Rattle.shell_lang.specs.Settings.{AreSettled, Changes};
 ghost use Rattle.shell_lang.specs.Known.{defaults, is_illegal, is_unknown, taken_back};
 
 use crate::LangFault;
@@ -15,14 +16,20 @@ use std::marker::Model;
 pub struct Vars {
     alloc: Global,
     values: BTreeMap<Text, Text>,
+    /// The names of the two variables that the shell itself asks for, so that it takes no memory.
+    quits: Text,
+    input: Text,
 }
 
 impl Model for Vars {
-    ghost use Rattle.std.specs.Prelude.{ℕ, List};
+    ghost use Rattle.std.specs.Prelude.{◌≡◌, ℕ, List, codes};
+    ghost use Rattle.shell_lang.specs.Settings.{AreSettled};
 
     ghost Value = { List (List ℕ × List ℕ) };
 
     ghost view = { λ v. v.values.entries };
+
+    ghost invariant = { λ v. (v.quits ≡ codes "on_failure_script_quits") × (v.input ≡ codes "input_file") × AreSettled v.values.entries };
 }
 
 impl Vars {
@@ -34,17 +41,19 @@ impl Vars {
     pub fn new(alloc: Global) -> Result<Vars, AllocError>
         ensures { IfOk result (λ vars. vars ≡ defaults) }
     {
-        let mut vars = Vars {
+        let mut values = BTreeMap::new(alloc);
+        put(alloc, &mut values, b"bmc_length", b"10")?;
+        put(alloc, &mut values, b"bmc_loopback", b"*")?;
+        put(alloc, &mut values, b"default_simulation_steps", b"10")?;
+        put(alloc, &mut values, b"default_trace_plugin", b"0")?;
+        put(alloc, &mut values, b"on_failure_script_quits", b"0")?;
+        put(alloc, &mut values, b"shown_states", b"25")?;
+        Ok(Vars {
             alloc,
-            values: BTreeMap::new(alloc),
-        };
-        vars.put(b"bmc_length", b"10")?;
-        vars.put(b"bmc_loopback", b"*")?;
-        vars.put(b"default_simulation_steps", b"10")?;
-        vars.put(b"default_trace_plugin", b"0")?;
-        vars.put(b"on_failure_script_quits", b"0")?;
-        vars.put(b"shown_states", b"25")?;
-        Ok(vars)
+            values,
+            quits: Text::from_slice(alloc, b"on_failure_script_quits")?,
+            input: Text::from_slice(alloc, b"input_file")?,
+        })
     }
 
     /// Sets a variable, of any name.
@@ -61,7 +70,7 @@ impl Vars {
         if is_illegal(name.as_slice(), v.as_slice()) {
             return Err(LangFault::BadValue(name.copy(self.alloc)?));
         }
-        self.put(name.as_slice(), v.as_slice())?;
+        put(self.alloc, &mut self.values, name.as_slice(), v.as_slice())?;
         Ok(())
     }
 
@@ -79,7 +88,7 @@ impl Vars {
         match Known::find(name.as_slice()) {
             Some(known) => match known.default() {
                 Some(value) => {
-                    self.put(name.as_slice(), value)?;
+                    put(self.alloc, &mut self.values, name.as_slice(), value)?;
                 }
                 None => {
                     self.values.remove(name);
@@ -96,29 +105,49 @@ impl Vars {
 
     /// The value of a variable, if it has one.
     pub fn get(&self, name: &Text) -> Option<&Text>
-        ensures { option_copied result ≡ at_name self.now name.now }
+        ensures value { option_copied result ≡ at_name self.now name.now }
+        ensures settled { AreSettled self.now }
     {
         self.values.get(name)
     }
 
-    /// The name at a place, from 0, in byte order among those that have a value.
-    pub fn name(&self, n: usize) -> Option<&Text>
-        ensures value { option_copied result ≡ slice_get (names_of self.now) n }
-        ensures order { AreInOrder self.now }
+    /// The value of `on_failure_script_quits`.
+    pub fn on_failure_script_quits(&self) -> Option<&Text>
+        ensures { option_copied result ≡ at_name self.now (codes "on_failure_script_quits") }
     {
-        self.values.keys().nth(n)
+        self.values.get(&self.quits)
     }
 
-    // Puts a value under a name, which it need not take.
-    fn put(&mut self, name: &[u8], value: &[u8]) -> Result<(), AllocError>
-        ensures ok { OnOk result (self.new ≡ with_name self.old name.now value.now) }
-        ensures err { OnErr result (self.new ≡ self.old) }
+    /// The value of `input_file`, if it has one.
+    pub fn input_file(&self) -> Option<&Text>
+        ensures { option_copied result ≡ at_name self.now (codes "input_file") }
     {
-        let value = Text::from_slice(self.alloc, value)?;
-        let name = Text::from_slice(self.alloc, name)?;
-        self.values.insert(name, value)?;
-        Ok(())
+        self.values.get(&self.input)
     }
+
+    /// The names with their values, in the byte order of the names.
+    pub fn entries(&self) -> &BTreeMap<Text, Text>
+        ensures { result.now.entries ≡ self.now }
+    {
+        &self.values
+    }
+}
+
+// Puts a value under a name, which it need not take.
+fn put(
+    alloc: Global,
+    values: &mut BTreeMap<Text, Text>,
+    name: &[u8],
+    value: &[u8],
+) -> Result<(), AllocError>
+    ensures ok { OnOk result (values.new.entries ≡ with_name values.old.entries name.now value.now) }
+    ensures changes { OnOk result (Changes values.old.entries values.new.entries name.now (Some value.now)) }
+    ensures err { OnErr result (values.new.entries ≡ values.old.entries) }
+{
+    let value = Text::from_slice(alloc, value)?;
+    let name = Text::from_slice(alloc, name)?;
+    values.insert(name, value)?;
+    Ok(())
 }
 
 // Whether a known variable does not take the value.

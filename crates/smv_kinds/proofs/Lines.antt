@@ -1,4 +1,4 @@
--- Each operator has a line in the table.
+-- Each operator has one line in the table.
 use Rattle.std.proofs.Common.{◌≡◌, refl, true, length, filter}
 use Rattle.std.specs.Prelude.{is_some}
 use denote.Enum.Bare.{sameb}
@@ -9,7 +9,7 @@ use Rattle.smv_tree.specs.declared.expr.Op2.TheVariants.{Concat, Mul, Div, Mod, 
 use Rattle.smv_tree.specs.contracts.expr.Op1.{the_type as type_of_one}
 use Rattle.smv_tree.specs.contracts.expr.Op2.{the_type as type_of_two}
 use Rattle.smv_kinds.specs.declared.table.TheConstants.{OPERATORS}
-use Rattle.smv_kinds.specs.Operators.{one_entry, two_entry}
+use Rattle.smv_kinds.specs.Table.{one_entry, two_entry}
 
 pub one_has_line : (o : Op1) → is_some (one_entry o) ≡ true
 unfolding one_entry

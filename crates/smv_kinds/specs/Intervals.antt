@@ -1,5 +1,5 @@
 -- Intervals of integers, and what operators make of them.
-use Rattle.std.specs.Prelude.{ℕ, ◌-◌, ◌^◌, max, min, Bool, true, false, ◌&&◌, if◌then◌else◌, ℤ, pos, negsuc, neg_ℤ, ◌+ℤ◌, ◌-ℤ◌, ◌*ℤ◌, int_lt, int_le, unsigned_abs, Result, Ok, Err}
+use Rattle.std.specs.Prelude.{ℕ, ◌-◌, ◌^◌, max, Bool, true, false, ◌&&◌, if◌then◌else◌, ℤ, pos, negsuc, neg_ℤ, ◌+ℤ◌, ◌-ℤ◌, ◌*ℤ◌, int_lt, int_le, unsigned_abs, Result, Ok, Err}
 use Rattle.std.specs.Int.{int_min, int_max}
 use Rattle.smv_kinds.specs.declared.interval.Interval.{Interval}
 
@@ -58,7 +58,7 @@ remainder a b =
 abbrev pub hull : Interval → Interval → Interval
 hull a b = between (int_min a.low b.low) (int_max a.high b.high)
 
--- the numbers of words. An end past 128 bits, which no width that is allowed has, stands as the last of 128 bits
+-- the numbers of words of a width
 abbrev pub of_word : Bool → ℕ → Interval
-of_word true width = between (neg_ℤ (pos (2 ^ min (width - 1) 127))) (pos (2 ^ min (width - 1) 127 - 1))
-of_word false width = between (pos 0) (pos (2 ^ min width 127 - 1))
+of_word true width = between (neg_ℤ (pos (2 ^ (width - 1)))) (pos (2 ^ (width - 1) - 1))
+of_word false width = between (pos 0) (pos (2 ^ width - 1))

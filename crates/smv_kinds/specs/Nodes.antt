@@ -53,7 +53,7 @@ const_typing signed n = node_of false (words signed n)
 
 -- the value at the next moment
 abbrev pub next_typing : Typing → Result Typing NodeFault
-next_typing t = if t.is_set then Err SetHere else Ok t
+next_typing t = if t.is_set then Err SetHere else node_of false (given t.sort)
 
 abbrev pub is_boolean : Sort → Bool
 is_boolean Boolean = true

@@ -1,26 +1,10 @@
--- What each operator takes and gives, by its line in the table.
-use Rattle.std.specs.Prelude.{◌+◌, ◌==◌, Bool, true, false, not, ◌&&◌, if◌then◌else◌, Option, Some, None, Result, Ok, Err, find, pos}
-use denote.Enum.Bare.{sameb}
+-- What each operator takes and gives: the kinds, whether operands may be sets, and the integers.
+use Rattle.std.specs.Prelude.{◌+◌, ◌==◌, Bool, true, false, not, ◌&&◌, if◌then◌else◌, Option, Some, None, Result, Ok, Err, pos}
 use Rattle.smv_tree.specs.declared.expr.Op1.{Op1}
+use Rattle.smv_tree.specs.declared.expr.Op1.TheVariants as one
 use Rattle.smv_tree.specs.declared.expr.Op2.{Op2}
-use Rattle.smv_tree.specs.contracts.expr.Op1.{the_type as type_of_one}
-use Rattle.smv_tree.specs.contracts.expr.Op2.{the_type as type_of_two}
+use Rattle.smv_tree.specs.declared.expr.Op2.TheVariants as two
 use Rattle.smv_kinds.specs.declared.interval.Interval.{Interval}
-use Rattle.smv_kinds.specs.declared.table.OneEntry.{OneEntry}
-use Rattle.smv_kinds.specs.declared.table.TwoEntry.{TwoEntry}
-use Rattle.smv_kinds.specs.declared.table.Operand.{Operand}
-use Rattle.smv_kinds.specs.declared.table.Operand.TheVariants as takes
-use Rattle.smv_kinds.specs.declared.table.Operands.{Operands}
-use Rattle.smv_kinds.specs.declared.table.Operands.TheVariants as take
-use Rattle.smv_kinds.specs.declared.table.OneGives.{OneGives}
-use Rattle.smv_kinds.specs.declared.table.OneGives.TheVariants as gives
-use Rattle.smv_kinds.specs.declared.table.TwoGives.{TwoGives}
-use Rattle.smv_kinds.specs.declared.table.TwoGives.TheVariants as give
-use Rattle.smv_kinds.specs.declared.table.Sets.{Sets}
-use Rattle.smv_kinds.specs.declared.table.Sets.TheVariants.{Neither, Right, Both}
-use Rattle.smv_kinds.specs.declared.table.Ends.{Ends}
-use Rattle.smv_kinds.specs.declared.table.Ends.TheVariants.{Sums, Differences, Products, Quotients, Remainders}
-use Rattle.smv_kinds.specs.declared.table.TheConstants.{OPERATORS}
 use Rattle.smv_kinds.specs.declared.sort.Sort.{Sort}
 use Rattle.smv_kinds.specs.declared.sort.Sort.TheVariants.{Boolean, Integer, Word}
 use Rattle.smv_kinds.specs.declared.sort.TyWord.{TyWord}
@@ -28,120 +12,111 @@ use Rattle.smv_kinds.specs.declared.sort.TyWord.TheVariants as named
 use Rattle.smv_kinds.specs.declared.typing.Typing.{Typing}
 use Rattle.smv_kinds.specs.declared.typing.NodeFault.{NodeFault}
 use Rattle.smv_kinds.specs.declared.typing.NodeFault.TheVariants as faults
-use Rattle.smv_kinds.specs.Intervals.{between, sum, difference, product, quotient, remainder, negated, of_word}
+use Rattle.smv_kinds.specs.Intervals.{between, sum, difference, product, quotient, remainder, negated}
 use Rattle.smv_kinds.specs.Sorts.{tyword, agree, joined}
-use Rattle.smv_kinds.specs.Results.{node_of, integers, words, given}
+use Rattle.smv_kinds.specs.Results.{node_of, integers, words, given, number_of_word}
 
--- the line of an operator in the table
-unfoldable pub one_entry : Op1 → Option OneEntry
-one_entry o = find (λ e. sameb type_of_one e.operator o) OPERATORS.one
+-- what an operator or a function of one operand gives, where it takes a value of this kind
+abbrev pub on_value : Op1 → Sort → Option (Result Sort NodeFault)
+on_value one.Not Boolean = Some (Ok Boolean)
+on_value one.Not (Word s n) = Some (words s n)
+on_value one.Neg (Integer i) = Some (integers (negated i))
+on_value one.Neg (Word s n) = Some (words s n)
+on_value one.Word1 Boolean = Some (words false 1)
+on_value one.Bool Boolean = Some (Ok Boolean)
+on_value one.Bool (Integer i) = Some (Ok Boolean)
+on_value one.Bool (Word false n) = if n == 1 then Some (Ok Boolean) else None
+on_value one.Signed (Word s n) = Some (words true n)
+on_value one.Unsigned (Word s n) = Some (words false n)
+on_value one.ToInt Boolean = Some (Ok (Integer (between (pos 0) (pos 1))))
+on_value one.ToInt (Integer i) = Some (Ok (Integer i))
+on_value one.ToInt (Word s n) = Some (number_of_word s n)
+on_value _ _ = None
 
-unfoldable pub two_entry : Op2 → Option TwoEntry
-two_entry o = find (λ e. sameb type_of_two e.operator o) OPERATORS.two
+-- the kind that a refusal of another says is wanted: the first of those that are taken
+abbrev pub wanted : Op1 → TyWord
+wanted one.Neg = named.Integer
+wanted one.Signed = named.AnyWord
+wanted one.Unsigned = named.AnyWord
+wanted _ = named.Boolean
 
--- the kinds that an operator or a function of one operand takes
-abbrev pub fits_one : Operand → Sort → Bool
-fits_one takes.Boolean Boolean = true
-fits_one takes.BooleanOrWord Boolean = true
-fits_one takes.BooleanOrWord (Word s n) = true
-fits_one takes.IntegerOrWord (Integer i) = true
-fits_one takes.IntegerOrWord (Word s n) = true
-fits_one takes.Word (Word s n) = true
-fits_one takes.BooleanIntegerOrBit Boolean = true
-fits_one takes.BooleanIntegerOrBit (Integer i) = true
-fits_one takes.BooleanIntegerOrBit (Word false n) = n == 1
-fits_one takes.BooleanIntegerOrWord Boolean = true
-fits_one takes.BooleanIntegerOrWord (Integer i) = true
-fits_one takes.BooleanIntegerOrWord (Word s n) = true
-fits_one _ _ = false
+-- two booleans, or two words of one type: the same kind
+abbrev pub bitwise : Sort → Sort → Option (Result Sort NodeFault)
+bitwise Boolean Boolean = Some (Ok Boolean)
+bitwise (Word s m) (Word t n) = if agree (Word s m) (Word t n) then Some (words s m) else None
+bitwise _ _ = None
 
--- the kind that a refusal says is wanted: the first of those that are taken
-abbrev pub wanted : Operand → TyWord
-wanted takes.Boolean = named.Boolean
-wanted takes.BooleanOrWord = named.Boolean
-wanted takes.IntegerOrWord = named.Integer
-wanted takes.Word = named.AnyWord
-wanted takes.BooleanIntegerOrBit = named.Boolean
-wanted takes.BooleanIntegerOrWord = named.Boolean
+-- two integers, or two words of one type: integers of the interval that is made of theirs, or words of the type
+abbrev pub arithmetic : (Interval → Interval → Interval) → Sort → Sort → Option (Result Sort NodeFault)
+arithmetic made (Integer a) (Integer b) = Some (integers (made a b))
+arithmetic made (Word s m) (Word t n) = if agree (Word s m) (Word t n) then Some (words s m) else None
+arithmetic made _ _ = None
 
--- what it gives
-abbrev pub one_sort : OneGives → Sort → Result Sort NodeFault
-one_sort gives.Same s = given s
-one_sort gives.Negated (Integer i) = integers (negated i)
-one_sort gives.Negated s = given s
-one_sort gives.Boolean s = Ok Boolean
-one_sort gives.Bit s = words false 1
-one_sort gives.SignedWord (Word signed n) = words true n
-one_sort gives.SignedWord s = given s
-one_sort gives.UnsignedWord (Word signed n) = words false n
-one_sort gives.UnsignedWord s = given s
-one_sort gives.Number Boolean = Ok (Integer (between (pos 0) (pos 1)))
-one_sort gives.Number (Word signed n) = integers (of_word signed n)
-one_sort gives.Number s = given s
+-- two integers, or two words of one type, which are compared
+abbrev pub ordered : Sort → Sort → Option (Result Sort NodeFault)
+ordered (Integer a) (Integer b) = Some (Ok Boolean)
+ordered (Word s m) (Word t n) = if agree (Word s m) (Word t n) then Some (Ok Boolean) else None
+ordered _ _ = None
 
--- the kinds that an operator between two operands takes
-abbrev pub fits_two : Operands → Sort → Sort → Bool
-fits_two take.Words (Word s m) (Word t n) = true
-fits_two take.BooleansOrWords Boolean Boolean = true
-fits_two take.BooleansOrWords (Word s m) (Word t n) = agree (Word s m) (Word t n)
-fits_two take.IntegersOrWords (Integer a) (Integer b) = true
-fits_two take.IntegersOrWords (Word s m) (Word t n) = agree (Word s m) (Word t n)
-fits_two take.WordAndAmount (Word s m) (Integer b) = true
-fits_two take.WordAndAmount (Word s m) (Word false n) = true
-fits_two take.Agreeing a b = agree a b
-fits_two _ _ _ = false
+-- a word, and an integer or an unsigned word: the type of the left
+abbrev pub shifted : Sort → Sort → Option (Result Sort NodeFault)
+shifted (Word s m) (Integer b) = Some (words s m)
+shifted (Word s m) (Word false n) = Some (words s m)
+shifted _ _ = None
 
--- an operand that is a set, on the left and on the right, is allowed
-abbrev pub allows : Sets → Bool → Bool → Bool
-allows Neither left right = not left && not right
-allows Right left right = not left
-allows Both left right = true
+-- two words: an unsigned word as wide as both
+abbrev pub concatenated : Sort → Sort → Option (Result Sort NodeFault)
+concatenated (Word s m) (Word t n) = Some (words false (m + n))
+concatenated _ _ = None
 
--- the integers that it makes of two intervals
-abbrev pub ends_of : Ends → Interval → Interval → Interval
-ends_of Sums a b = sum a b
-ends_of Differences a b = difference a b
-ends_of Products a b = product a b
-ends_of Quotients a b = quotient a
-ends_of Remainders a b = remainder a b
+-- two kinds that agree
+abbrev pub agreeing : Result Sort NodeFault → Sort → Sort → Option (Result Sort NodeFault)
+agreeing r a b = if agree a b then Some r else None
 
--- what it gives
-abbrev pub two_sort : TwoGives → Sort → Sort → Result Sort NodeFault
-two_sort give.Boolean a b = Ok Boolean
-two_sort give.Left a b = given a
-two_sort give.Concatenated (Word s m) (Word t n) = words false (m + n)
-two_sort give.Concatenated a b = given a
-two_sort (give.Arithmetic ends) (Integer a) (Integer b) = integers (ends_of ends a b)
-two_sort (give.Arithmetic ends) a b = given a
-two_sort give.Joined a b = given (joined a b)
+-- what an operator between two operands gives, where it takes values of these kinds
+abbrev pub on_two : Op2 → Sort → Sort → Option (Result Sort NodeFault)
+on_two two.Concat a b = concatenated a b
+on_two two.Mul a b = arithmetic product a b
+on_two two.Div a b = arithmetic (λ i j. quotient i) a b
+on_two two.Mod a b = arithmetic remainder a b
+on_two two.Add a b = arithmetic sum a b
+on_two two.Sub a b = arithmetic difference a b
+on_two two.Shl a b = shifted a b
+on_two two.Shr a b = shifted a b
+on_two two.Union a b = agreeing (given (joined a b)) a b
+on_two two.In a b = agreeing (Ok Boolean) a b
+on_two two.Eq a b = agreeing (Ok Boolean) a b
+on_two two.Ne a b = agreeing (Ok Boolean) a b
+on_two two.Lt a b = ordered a b
+on_two two.Gt a b = ordered a b
+on_two two.Le a b = ordered a b
+on_two two.Ge a b = ordered a b
+on_two two.And a b = bitwise a b
+on_two two.Or a b = bitwise a b
+on_two two.Xor a b = bitwise a b
+on_two two.Xnor a b = bitwise a b
+on_two two.Iff a b = bitwise a b
+on_two two.Implies a b = bitwise a b
 
--- it gives a set
-abbrev pub gives_set : TwoGives → Bool
-gives_set give.Joined = true
-gives_set _ = false
+-- whether operands on the left and on the right that are sets, or are none, are allowed
+abbrev pub allowed : Op2 → Bool → Bool → Bool
+allowed two.Union left right = true
+allowed two.In left right = not left
+allowed _ left right = not left && not right
 
--- a node by its line: kinds go before sets, and sets before widths and ends
-abbrev pub one_by_line : OneEntry → Typing → Result Typing NodeFault
-one_by_line e t =
-    if fits_one e.takes t.sort then (if t.is_set then Err faults.SetHere else node_of false (one_sort e.gives t.sort))
-    else Err (faults.Operands (tyword t.sort) (wanted e.takes))
+-- a union is a set
+abbrev pub is_union : Op2 → Bool
+is_union two.Union = true
+is_union _ = false
 
-abbrev pub two_by_line : TwoEntry → Typing → Typing → Result Typing NodeFault
-two_by_line e a b =
-    if fits_two e.takes a.sort b.sort then (if allows e.sets a.is_set b.is_set then node_of (gives_set e.gives) (two_sort e.gives a.sort b.sort) else Err faults.SetHere)
-    else Err (faults.Operands (tyword a.sort) (tyword b.sort))
-
--- a node of an operator; each has a line
-abbrev pub one_node : Option OneEntry → Typing → Result Typing NodeFault
-one_node (Some e) t = one_by_line e t
-one_node None t = Err faults.SetHere
-
-abbrev pub two_node : Option TwoEntry → Typing → Typing → Result Typing NodeFault
-two_node (Some e) a b = two_by_line e a b
-two_node None a b = Err faults.SetHere
+-- a node with what is given where its kinds are taken. Kinds go before sets, and sets before widths and ends
+abbrev pub taken : Option (Result Sort NodeFault) → NodeFault → Bool → Bool → Result Typing NodeFault
+taken None other sets_allowed is_set = Err other
+taken (Some sort) other sets_allowed is_set = if sets_allowed then node_of is_set sort else Err faults.SetHere
 
 unfoldable pub one_typing : Op1 → Typing → Result Typing NodeFault
-one_typing o t = one_node (one_entry o) t
+one_typing o t = taken (on_value o t.sort) (faults.Operands (tyword t.sort) (wanted o)) (not t.is_set) false
 
 unfoldable pub two_typing : Op2 → Typing → Typing → Result Typing NodeFault
-two_typing o a b = two_node (two_entry o) a b
+two_typing o a b =
+    taken (on_two o a.sort b.sort) (faults.Operands (tyword a.sort) (tyword b.sort)) (allowed o a.is_set b.is_set) (is_union o)

@@ -7,7 +7,7 @@ use Rattle.smv_kinds.specs.declared.typing.Typing.{Typing}
 use Rattle.smv_kinds.specs.declared.typing.NodeFault.{NodeFault}
 use Rattle.smv_kinds.specs.declared.typing.NodeFault.TheVariants as faults
 use Rattle.smv_kinds.specs.declared.result.TheConstants.{WIDEST}
-use Rattle.smv_kinds.specs.Intervals.{kept}
+use Rattle.smv_kinds.specs.Intervals.{kept, of_word}
 
 -- one value, and a set
 abbrev pub single : Sort → Typing
@@ -36,6 +36,10 @@ is_width n = nat_le 1 n && nat_le n WIDEST
 -- a word of this width, which has to be within its limits
 abbrev pub words : Bool → ℕ → Result Sort NodeFault
 words signed n = if is_width n then Ok (Word signed n) else Err faults.Width
+
+-- the numbers of words of a width. Those of 128 bits and more, which no type may have, are refused by the width
+abbrev pub number_of_word : Bool → ℕ → Result Sort NodeFault
+number_of_word signed n = if nat_le 1 n && nat_le n 127 then integers (of_word signed n) else Err faults.Width
 
 -- a result of this kind
 abbrev pub given : Sort → Result Sort NodeFault

@@ -1,4 +1,4 @@
-ghost use Rattle.std.specs.Prelude.{◌≡◌, ◌<◌, ◌≤◌, ◌^◌, ◌-◌, min, ℤ};
+ghost use Rattle.std.specs.Prelude.{◌≡◌, ◌<◌, ◌≤◌, ◌^◌, ◌-◌, ℤ};
 ghost use Rattle.smv_kinds.specs.Intervals.{is_narrow, kept, between, sum, difference, negated, product, least, greatest, magnitude, quotient, remainder, hull, of_word};
 
 use crate::wide;
@@ -141,14 +141,15 @@ impl Interval {
     }
 
     /// The numbers of words of this width.
-    pub fn of_word(signed: bool, width: u8) -> Result<Interval, i128>
+    pub(crate) fn of_word(signed: bool, width: u8) -> Result<Interval, i128>
+        requires { (1 ≤ width) × (width ≤ 127) }
         ensures { result ≡ kept (of_word signed width) }
     {
         if signed {
-            let half = wide::power(width.saturating_sub(1).min(127));
+            let half = wide::power(width - 1);
             Interval::kept(wide::below_zero(half), wide::natural(half - 1))
         } else {
-            Interval::kept(0, wide::natural(wide::power(width.min(127)) - 1))
+            Interval::kept(0, wide::natural(wide::power(width) - 1))
         }
     }
 }

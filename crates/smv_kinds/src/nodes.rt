@@ -88,7 +88,7 @@ pub fn next_typing(operand: Typing) -> Result<Typing, NodeFault>
     if operand.is_set {
         Err(NodeFault::SetHere)
     } else {
-        Ok(operand)
+        node(false, given(operand.sort))
     }
 }
 

@@ -5,10 +5,11 @@ ghost use Rattle.smv_tree.specs.declared.expr.Op1.{Op1};
 ghost use Rattle.smv_tree.specs.declared.expr.Op2.{Op2};
 ghost use Rattle.smv_tree.specs.contracts.expr.Op1.{the_type as type_of_one};
 ghost use Rattle.smv_tree.specs.contracts.expr.Op2.{the_type as type_of_two};
-ghost use Rattle.smv_kinds.specs.Operators.{one_entry, two_entry, fits_one, wanted, one_sort, fits_two, allows, ends_of, two_sort, gives_set, one_by_line, two_by_line, one_typing, two_typing};
+ghost use Rattle.smv_kinds.specs.Table.{one_entry, two_entry, fits_one, wanted_by, one_sort, fits_two, allows, ends_of, two_sort, gives_set, one_by_line, two_by_line};
+ghost use Rattle.smv_kinds.specs.Operators.{one_typing, two_typing};
 ghost use Rattle.smv_kinds.specs.Intervals.{kept};
 
-use crate::result::{given, integers, node, words};
+use crate::result::{given, integers, node, number_of_word, words};
 use crate::table::{
     Ends, OPERATORS, OneEntry, OneGives, Operand, Operands, Sets, TwoEntry, TwoGives,
 };
@@ -35,7 +36,7 @@ impl Operand {
 
     /// The kind that a refusal says is wanted.
     fn wanted(self) -> TyWord
-        ensures { result ≡ wanted self }
+        ensures { result ≡ wanted_by self }
     {
         match self {
             Operand::Boolean | Operand::BooleanOrWord => TyWord::Boolean,
@@ -58,9 +59,7 @@ impl OneGives {
             (OneGives::SignedWord, Sort::Word(_, width)) => words(true, width as u64),
             (OneGives::UnsignedWord, Sort::Word(_, width)) => words(false, width as u64),
             (OneGives::Number, Sort::Boolean) => Ok(Sort::Integer(Interval { low: 0, high: 1 })),
-            (OneGives::Number, Sort::Word(signed, width)) => integers(Interval::of_word(
-                signed, width,
-            )),
+            (OneGives::Number, Sort::Word(signed, width)) => number_of_word(signed, width),
             _ => given(operand),
         }
     }
@@ -141,7 +140,7 @@ impl TwoGives {
 
 impl OneEntry {
     /// The line of an operator.
-    #[tactic(auto, unfolding(crate::specs::Operators::one_entry))]
+    #[tactic(auto, unfolding(crate::specs::Table::one_entry))]
     fn find(operator: Op1) -> Option<OneEntry>
         ensures { result ≡ one_entry operator }
     {
@@ -167,7 +166,7 @@ impl OneEntry {
 
 impl TwoEntry {
     /// The line of an operator between two operands.
-    #[tactic(auto, unfolding(crate::specs::Operators::two_entry))]
+    #[tactic(auto, unfolding(crate::specs::Table::two_entry))]
     fn find(operator: Op2) -> Option<TwoEntry>
         ensures { result ≡ two_entry operator }
     {
@@ -197,7 +196,6 @@ impl TwoEntry {
 ///
 /// The fault of the node: kinds go before sets, and sets before widths and ends; so for all that is
 /// like it.
-#[tactic(auto, unfolding(crate::specs::Operators::one_typing))]
 pub fn one_typing(operator: Op1, operand: Typing) -> Result<Typing, NodeFault>
     ensures { result ≡ one_typing operator operand }
 {
@@ -208,7 +206,6 @@ pub fn one_typing(operator: Op1, operand: Typing) -> Result<Typing, NodeFault>
 }
 
 /// A node of an operator between two operands.
-#[tactic(auto, unfolding(crate::specs::Operators::two_typing))]
 pub fn two_typing(operator: Op2, left: Typing, right: Typing) -> Result<Typing, NodeFault>
     ensures { result ≡ two_typing operator left right }
 {

@@ -1,6 +1,6 @@
 //! Results of nodes, as far as integers have to have 64 bits and words a width within its limits.
 ghost use Rattle.std.specs.Prelude.{◌≡◌, Result};
-ghost use Rattle.smv_kinds.specs.Results.{integers_of, words, given, node_of, is_width};
+ghost use Rattle.smv_kinds.specs.Results.{integers_of, words, number_of_word, given, node_of, is_width};
 
 use crate::{Interval, NodeFault, Sort, Typing};
 
@@ -30,6 +30,18 @@ pub(crate) fn words(signed: bool, width: u64) -> Result<Sort, NodeFault>
 {
     if is_width(width) {
         Ok(Sort::Word(signed, width as u8))
+    } else {
+        Err(NodeFault::Width)
+    }
+}
+
+/// The numbers of words of a width, whose ends have to have 64 bits. Those of 128 bits and more are refused
+/// by the width.
+pub(crate) fn number_of_word(signed: bool, width: u8) -> Result<Sort, NodeFault>
+    ensures { result ≡ number_of_word signed width }
+{
+    if 1 <= width && width <= 127 {
+        integers(Interval::of_word(signed, width))
     } else {
         Err(NodeFault::Width)
     }

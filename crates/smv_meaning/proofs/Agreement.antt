@@ -1,11 +1,10 @@
 -- The values of an expression are those of its names.
-use Rattle.std.proofs.Common.{◌≡◌, ℕ, List, [], ◌∷◌, ◌++◌, refl, ap}
+use Rattle.std.proofs.Common.{◌≡◌, ℕ, List, ◌++◌, refl, ap}
 use Rattle.std.specs.Prelude.{Contains}
 use Rattle.std.proofs.lemmas.List.Elements.{Contains-append_left, Contains-append_right}
 use Rattle.smv_tree.specs.Trees.{Tree, Trees, Arms, truth, number, word, name, span, set, cases, choice, one, two, select, next, widen, const, count, no_trees, tree, no_arms, arm}
-use Rattle.smv_tree.specs.declared.value.Value.{Value}
 use Rattle.smv_meaning.specs.Operators.{one_value, selected, widened, counted}
-use Rattle.smv_meaning.specs.Values.{Naming, values, all_values, each_values, first_values, on_one, on_both, chosen, first_true}
+use Rattle.smv_meaning.specs.Values.{Naming, values, all_values, each_values, first_values, on_one}
 use Rattle.smv_meaning.specs.Definitions.{names_in, names_in_all, names_in_arms}
 use Rattle.smv_meaning.proofs.Lists.{contains_only}
 

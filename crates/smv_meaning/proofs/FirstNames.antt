@@ -1,6 +1,6 @@
 -- What the first name of a path stands for: a parameter, a declaration, or neither.
-use Rattle.std.proofs.Common.{◌≡◌, ◌+◌, ℕ, zero, suc, Bool, true, false, cond, ◌||◌, List, [], ◌∷◌, ◌++◌, refl, ap, sym, ◌∙◌, arith}
-use Rattle.std.specs.Prelude.{Option, Some, None, codes, find, position, slice_get, option_and_then, ⊤}
+use Rattle.std.proofs.Common.{◌≡◌, ◌+◌, ℕ, suc, Bool, true, false, cond, ◌||◌, List, [], ◌∷◌, ◌++◌, refl, ap, sym, ◌∙◌, arith}
+use Rattle.std.specs.Prelude.{Option, Some, None, codes, find, slice_get, option_and_then}
 use Rattle.std.specs.List.{list_any, position_from}
 use Rattle.std.specs.Str.{bytes_eq}
 use Rattle.std.proofs.lemmas.Bool.{false≢true}
@@ -9,8 +9,8 @@ use Rattle.std.proofs.lemmas.Iterator.Adapters.{position_from-zero}
 use Rattle.smv_tree.specs.Trees.{Tree}
 use Rattle.smv_tree.specs.Models.{Body, Part, Formal, variable, define, assign, constraint, property, plain, instance}
 use Rattle.smv_meaning.specs.Instances.{Instance}
-use Rattle.smv_meaning.specs.Names.{Target, to_variable, to_body, to_instance, to_symbol, to_nothing, declared, or_else, member_of, names_symbol, symbol_of, first_target}
-use Rattle.smv_meaning.specs.Definitions.{Definition, outer, parameters_of, define_of, declares, define_named, definition_named}
+use Rattle.smv_meaning.specs.Names.{Target, to_variable, to_body, to_instance, to_symbol, to_nothing, or_else, member_of, names_symbol, symbol_of, first_target}
+use Rattle.smv_meaning.specs.Definitions.{Definition, outer, parameters_of, define_of, declares}
 use Rattle.smv_meaning.specs.Cycles.{OnBody}
 
 -- a target that is no body

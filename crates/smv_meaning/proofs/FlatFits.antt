@@ -1,10 +1,9 @@
 -- What fits a flat expression has its values, and names only what its names refer to.
-use Rattle.std.proofs.Common.{◌≡◌, ℕ, List, [], ◌∷◌, ◌++◌, refl, ap, sym, ◌∙◌, subst, inl, inr}
-use Rattle.std.specs.Prelude.{Contains, ◌⊎◌}
+use Rattle.std.proofs.Common.{◌≡◌, ℕ, List, [], ◌++◌, refl, ap, subst, inl, inr}
+use Rattle.std.specs.Prelude.{Contains}
 use Rattle.std.proofs.lemmas.List.Elements.{Contains-append_cases}
 use Rattle.smv_tree.specs.Trees.{Tree, Trees, Arms}
 use Rattle.smv_tree.specs.Models.{Body}
-use Rattle.smv_tree.specs.declared.value.Value.{Value}
 use Rattle.smv_meaning.specs.Operators.{one_value, selected, widened, counted}
 use Rattle.smv_meaning.specs.Values.{Naming, values, all_values, each_values, first_values, on_one}
 use Rattle.smv_meaning.specs.Definitions.{Definition, names_in, names_in_all, names_in_arms}

@@ -1,18 +1,17 @@
 -- The values of a flat expression on a flat model are those of the expression that it stands for.
 use Rattle.std.proofs.Common.{◌≡◌, ℕ, List, [], ◌∷◌, ◌++◌, map, refl, ap, sym, ◌∙◌, subst, append_assoc}
-use Rattle.std.specs.Prelude.{Some, slice_get, unwrap_or}
+use Rattle.std.specs.Prelude.{unwrap_or}
 use Rattle.std.proofs.lemmas.List.{append-nil}
 use Rattle.std.proofs.Math.Logic.{◌↔◌}
 use Rattle.smv_tree.specs.Trees.{Tree}
 use Rattle.smv_tree.specs.Models.{Body}
 use Rattle.smv_tree.specs.declared.value.Value.{Value}
-use Rattle.smv_meaning.specs.Instances.{Variable, variables}
-use Rattle.smv_meaning.specs.Names.{resolve}
+use Rattle.smv_meaning.specs.Instances.{variables}
 use Rattle.smv_meaning.specs.Values.{Naming, Snapshot, IsNaming, values, variable_values, target_values}
 use Rattle.smv_meaning.specs.Runs.{HasValues}
 use Rattle.smv_meaning.specs.Definitions.{Definition, Names}
-use Rattle.smv_meaning.specs.FlatTrees.{FlatName, Flat, Numbers, name_values, eval}
-use Rattle.smv_meaning.specs.FlatLines.{Refers, to_slot, to_def, to_name, Fits, AreLined, IsLine, slot_values, def_values, numbers_at}
+use Rattle.smv_meaning.specs.FlatTrees.{Flat, Numbers, eval}
+use Rattle.smv_meaning.specs.FlatLines.{to_slot, to_def, to_name, Fits, AreLined, IsLine, slot_values, def_values, numbers_at}
 use Rattle.smv_meaning.proofs.Lists.{slice_get-map}
 use Rattle.smv_meaning.proofs.Settling.{naming_there}
 use Rattle.smv_meaning.proofs.NamedDefinitions.{Stands, by_body, by_name, named_stands}

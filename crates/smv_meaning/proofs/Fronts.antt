@@ -1,5 +1,5 @@
 -- A front of a path is a path.
-use Rattle.std.proofs.Common.{◌≡◌, suc, List, [], ◌∷◌, ◌++◌, length, arith}
+use Rattle.std.proofs.Common.{◌≡◌, List, [], ◌∷◌, ◌++◌, length, arith}
 use Rattle.smv_tree.specs.Models.{Body}
 use Rattle.smv_tree.specs.declared.value.Value.{Value}
 use Rattle.smv_meaning.specs.Runs.{IsPath, IsAllowed, IsRun}

@@ -1,11 +1,15 @@
 pub mod Fronts
 pub mod Lists
+pub mod SameValues
 pub mod Agreement
 pub mod Settling
 pub mod FirstNames
 pub mod NamedDefinitions
 pub mod NamedOrNot
 pub mod Orders
+pub mod NoCycle
+pub mod FirstCyclesOne
+pub mod AllInstances
 pub mod Lassos
 pub mod Untils
 pub mod Truths
@@ -16,3 +20,5 @@ pub mod Parents
 pub mod RowsThere
 pub mod FlatFits
 pub mod FlatValues
+pub mod ExampleLemmas
+pub mod NestedLemmas

@@ -1,17 +1,16 @@
 -- What a path of names stands for, by the definition that it names.
-use Rattle.std.proofs.Common.{◌≡◌, ◌<◌, ◌+◌, ℕ, zero, suc, Bool, true, false, cond, List, [], ◌∷◌, ◌++◌, length, refl, ap, sym, ◌∙◌, subst, arith, inl, inr}
-use Rattle.std.specs.Prelude.{Contains, Option, Some, None, ◌⊎◌, codes, find, filter_map, flat_map, option_and_then, ⊤}
+use Rattle.std.proofs.Common.{◌≡◌, ◌<◌, ℕ, Bool, true, false, cond, List, [], ◌∷◌, ◌++◌, length, refl, ap, sym, ◌∙◌, subst, arith, inl, inr}
+use Rattle.std.specs.Prelude.{Option, Some, None, codes, find, filter_map, flat_map}
 use Rattle.std.specs.List.{list_any}
 use Rattle.std.specs.Str.{bytes_eq}
-use Rattle.std.proofs.lemmas.List.Elements.{Contains-append_left, Contains-append_right}
 use Rattle.smv_tree.specs.declared.place.Place.{Place}
 use Rattle.smv_tree.specs.Trees.{Tree, truth, number, word, name, span, set, cases, choice, one, two, select, next, widen, const, count}
-use Rattle.smv_tree.specs.Models.{Body, Part}
-use Rattle.smv_meaning.specs.Instances.{Instance, Entry, is_instance, instance_of, part_entries, entries_below, entries, instances, find_body, list_of}
+use Rattle.smv_tree.specs.Models.{Body}
+use Rattle.smv_meaning.specs.Instances.{Instance, Entry, is_instance, instance_of, part_entries, entries_below, instances, find_body, list_of}
 use Rattle.smv_meaning.specs.Names.{Target, to_variable, to_body, to_instance, to_symbol, to_nothing, same_names, instance_at, member_of, actual_target, first_target, follow, resolve_from, resolve}
-use Rattle.smv_meaning.specs.Definitions.{Definition, outer, parameters_of, define_of, declares, definitions_of, definitions, define_named, definition_named, NamesOwn, NamesBehind, Names}
-use Rattle.smv_meaning.proofs.Lists.{contains_flat_map, contains_filter_map, find_passes, find_contained, same_names-true}
-use Rattle.smv_meaning.proofs.FirstNames.{IsNoBody, undeclared, undeclared_is_no_body, first_target-picked, picked, picked_parameter, picked_other, picked_missing, parameter_named, without_actuals, IsParameter, IsDefine, parameter_found, define_found, member_define, member_no_body}
+use Rattle.smv_meaning.specs.Definitions.{Definition, outer, parameters_of, define_named, definition_named, Names}
+use Rattle.smv_meaning.proofs.Lists.{find_passes, same_names-true}
+use Rattle.smv_meaning.proofs.FirstNames.{undeclared, first_target-picked, picked_parameter, picked_other, parameter_named, without_actuals, parameter_found, define_found, member_define}
 
 -- an instance that is found has the names that were looked for
 pub instance_at-up : (all : List Instance) (up : List (List ℕ)) (i : Instance) → instance_at all up ≡ Some i → i.up ≡ up

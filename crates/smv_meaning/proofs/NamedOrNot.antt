@@ -1,15 +1,15 @@
 -- Each path of names names a definition or stands for no body, and definitions that are named are those of the program.
 use Rattle.std.proofs.Common.{◌≡◌, ℕ, Bool, true, false, cond, List, [], ◌∷◌, ◌++◌, refl, ap, sym, ◌∙◌, subst, inl, inr}
-use Rattle.std.specs.Prelude.{Contains, Option, Some, None, ◌⊎◌, find, filter_map, flat_map, option_and_then, ⊤}
+use Rattle.std.specs.Prelude.{Contains, Option, Some, None, ◌⊎◌, find, filter_map, option_and_then}
 use Rattle.std.specs.List.{list_any}
 use Rattle.std.specs.Str.{bytes_eq}
 use Rattle.std.proofs.lemmas.List.Elements.{Contains-append_left, Contains-append_right}
 use Rattle.smv_tree.specs.Models.{Body, Part}
 use Rattle.smv_meaning.specs.Instances.{Instance, instances}
 use Rattle.smv_meaning.specs.Names.{Target, to_variable, to_body, to_instance, to_symbol, to_nothing, same_names, instance_at, member_of, first_target, follow, resolve}
-use Rattle.smv_meaning.specs.Definitions.{Definition, parameters_of, define_of, declares, definitions_of, definitions, define_named, definition_named, NamesOwn, NamesBehind, Names}
+use Rattle.smv_meaning.specs.Definitions.{Definition, parameters_of, define_of, declares, definitions_of, definitions, define_named, definition_named, Names}
 use Rattle.smv_meaning.proofs.Lists.{contains_flat_map, contains_filter_map, find_contained}
-use Rattle.smv_meaning.proofs.FirstNames.{IsNoBody, undeclared, undeclared_is_no_body, first_target-picked, picked, picked_other, picked_missing, parameter_named, define_among, parameter_found, define_found, member_no_body}
+use Rattle.smv_meaning.proofs.FirstNames.{IsNoBody, undeclared, undeclared_is_no_body, first_target-picked, picked, picked_other, picked_missing, parameter_named, parameter_found, define_found, member_no_body}
 use Rattle.smv_meaning.proofs.NamedDefinitions.{instance_at-up, actual_in, resolve-from, resolve-found, resolve-last, follow-one, looked_up}
 
 -- a definition that is found is of this instance, and has this name

@@ -1,14 +1,13 @@
 -- Where definitions use only earlier ones, names come to an end; where names come to an end, no definition is on a cycle.
-use Rattle.std.proofs.Common.{◌≡◌, ◌+◌, ◌<◌, ℕ, zero, suc, List, [], ◌∷◌, ◌++◌, length, refl, ap, sym, ◌∙◌, subst, arith, length-append, append_assoc, inl, inr}
-use Rattle.std.specs.Prelude.{Contains, ◌⊎◌, ⊤}
+use Rattle.std.proofs.Common.{◌≡◌, ◌<◌, ℕ, zero, suc, List, [], ◌∷◌, ◌++◌, length, ap, sym, ◌∙◌, subst, arith, length-append, append_assoc, inl, inr}
+use Rattle.std.specs.Prelude.{Contains, ◌⊎◌}
 use Rattle.std.proofs.lemmas.List.{append-nil}
 use Rattle.std.proofs.lemmas.List.Elements.{Contains-append_cases}
-use Rattle.smv_tree.specs.Trees.{name}
 use Rattle.smv_tree.specs.Models.{Body}
 use Rattle.smv_meaning.specs.Names.{Target, to_variable, to_body, to_instance, to_symbol, to_nothing, resolve}
-use Rattle.smv_meaning.specs.Walks.{IsWalk, IsOnCycle}
+use Rattle.smv_meaning.specs.Walks.{IsWalk, IsOnCycle, IsTopological}
 use Rattle.smv_meaning.specs.Definitions.{Definition, definitions, names_in, Names, Uses}
-use Rattle.smv_meaning.specs.Cycles.{EachName, Settles, IsSettled, HasDefinitionCycle, IsInstanceName, AreOrdered, IsOrder}
+use Rattle.smv_meaning.specs.Cycles.{EachName, Settles, IsSettled, HasDefinitionCycle, IsInstanceName, IsAmong, IsOrder}
 use Rattle.smv_meaning.specs.FlatTrees.{FlatName, Flat}
 use Rattle.smv_meaning.specs.FlatLines.{Refers, to_slot, to_def, to_name, AreLined, IsLine}
 use Rattle.smv_meaning.proofs.Lists.{contains_only, only_contained, contains_none, slice_get-contained}
@@ -25,7 +24,7 @@ BodySettles program n d = EachName (λ names. Settles program n (resolve program
 body_settles_later : (program : List Body) (n : ℕ) (d : Definition) → BodySettles program n d → BodySettles program (suc n) d
 body_settles_later program n d h names c = settles_later program n (resolve program d.around names) (h names c)
 
-no_body_settles : (program : List Body) (n : ℕ) (t : Target) → IsNoBody t → Settles program (suc n) t
+pub no_body_settles : (program : List Body) (n : ℕ) (t : Target) → IsNoBody t → Settles program (suc n) t
 no_body_settles program n (to_variable path) h = tt
 no_body_settles program n (to_body up e) h = absurd h
 no_body_settles program n (to_instance up) h = tt
@@ -33,7 +32,7 @@ no_body_settles program n (to_symbol s) h = tt
 no_body_settles program n to_nothing h = tt
 
 -- so a name of the definition does through one more
-named_settles : (program : List Body) (n : ℕ) (up names : List (List ℕ)) (d : Definition) → Names program up names d → BodySettles program n d → Settles program (suc n) (resolve program up names)
+pub named_settles : (program : List Body) (n : ℕ) (up names : List (List ℕ)) (d : Definition) → Names program up names d → BodySettles program n d → Settles program (suc n) (resolve program up names)
 named_settles program n up names d named h = by_case (named_stands program up names d named)
   where
     by_case : Stands program up names d → Settles program (suc n) (resolve program up names)
@@ -58,15 +57,25 @@ module _ (program : List Body) where
       by_place (inl k) = body_settles_later program (suc (length before)) e (h e k)
       by_place (inr k) = subst (BodySettles program (suc (suc (length before)))) (only_contained d e k) last_settles
 
+  -- a name of an instance settles at once
+  instance_name_settles : (n : ℕ) (d : Definition) → IsInstanceName program d → BodySettles program (suc n) d
+  instance_name_settles n d i y c =
+      let only : i.names ≡ y = only_contained i.names y (subst (λ b. Contains (names_in b) y) i.only c) in
+      subst (Settles program (suc n)) (sym i.stands ∙ ap (resolve program d.around) only) tt
+
   -- a definition that uses only those before it
-  user_settles : (before : List Definition) (d : Definition) → AllSettle before → ((e : Definition) → Uses program d e → Contains before e) → BodySettles program (suc (suc (length before))) d
+  user_settles : (before : List Definition) (d : Definition) → AllSettle before → ((e : Definition) → Uses program d e → IsAmong program before e) → BodySettles program (suc (suc (length before))) d
   user_settles before d h uses names k =
       elim (named_or_not program d.around names) [
-        | inl (f, named) ↦ named_settles program (suc (length before)) d.around names f named (h f (uses f (names, k, named)))
+        | inl (f, named) ↦ named_settles program (suc (length before)) d.around names f named (used_settles f (uses f (names, k, named)))
         | inr plain ↦ no_body_settles program (suc (length before)) (resolve program d.around names) plain
       ]
+    where
+      used_settles : (e : Definition) → IsAmong program before e → BodySettles program (suc (length before)) e
+      used_settles e (inl c) = h e c
+      used_settles e (inr i) = instance_name_settles (length before) e i
 
-  ordered_settle : (before rest : List Definition) → AllSettle before → AreOrdered program before rest → AllSettle (before ++ rest)
+  ordered_settle : (before rest : List Definition) → AllSettle before → IsTopological (Uses program) (IsAmong program) before rest → AllSettle (before ++ rest)
   ordered_settle before [] h o = subst AllSettle (sym (append-nil before)) h
   ordered_settle before (d ∷ ds) h o = subst AllSettle (append_assoc before (d ∷ []) ds) (ordered_settle (before ++ d ∷ []) ds (settle_next before d h (user_settles before d h o.0)) o.1)
 
@@ -85,17 +94,11 @@ module _ (program : List Body) where
       (lined_settle (before ++ d ∷ []) ds fs
       (settle_next before d h (λ names k. let r = fits_refer program before d.around d.body f o.0 names k in referred_settles before h d.around names r.0 r.1)) o.1)
 
-  -- a name of an instance settles at once
-  instance_name_settles : (n : ℕ) (d : Definition) → IsInstanceName program d → BodySettles program (suc n) d
-  instance_name_settles n d i y c =
-      let only : i.names ≡ y = only_contained i.names y (subst (λ b. Contains (names_in b) y) i.only c) in
-      subst (Settles program (suc n)) (sym i.stands ∙ ap (resolve program d.around) only) tt
-
   -- where all these settle, and all definitions are among them but for names of instances, each path of names comes to an end
-  all_settled : (order : List Definition) → AllSettle order → ((d : Definition) → Contains (definitions program) d → Contains order d ⊎ IsInstanceName program d) → IsSettled program
+  all_settled : (order : List Definition) → AllSettle order → ((d : Definition) → Contains (definitions program) d → IsAmong program order d) → IsSettled program
   all_settled order h complete up names = (suc (suc (length order)), by_case (named_or_not program up names))
     where
-      settles : (d : Definition) → Contains order d ⊎ IsInstanceName program d → BodySettles program (suc (length order)) d
+      settles : (d : Definition) → IsAmong program order d → BodySettles program (suc (length order)) d
       settles d (inl c) = h d c
       settles d (inr i) = instance_name_settles (length order) d i
 
@@ -104,18 +107,18 @@ module _ (program : List Body) where
       by_case (inr plain) = no_body_settles program (suc (length order)) (resolve program up names) plain
 
   pub ordered_is_settled : (order : List Definition) → IsOrder program order → IsSettled program
-  ordered_is_settled order o = all_settled order (ordered_settle [] order (λ d c. absurd (contains_none d c)) o.ordered) o.complete
+  ordered_is_settled order o = all_settled order (ordered_settle [] order (λ d c. absurd (contains_none d c)) o.ordered) o.listed.complete
 
   pub lined_is_settled : (defs : List Definition) (bodies : List Flat) → IsLine program defs bodies → IsSettled program
-  lined_is_settled defs bodies l = all_settled defs (lined_settle [] defs bodies (λ d c. absurd (contains_none d c)) l.lined) l.complete
+  lined_is_settled defs bodies l = all_settled defs (lined_settle [] defs bodies (λ d c. absurd (contains_none d c)) l.lined) l.listed.complete
 
 -- a walk goes on by one step
-walk_on : {A : Type 0} (R : A → A → Type 0) (a : A) (xs : List A) (b c : A) → IsWalk R a xs b → R b c → IsWalk R a (xs ++ b ∷ []) c
+pub walk_on : {A : Type 0} (R : A → A → Type 0) (a : A) (xs : List A) (b c : A) → IsWalk R a xs b → R b c → IsWalk R a (xs ++ b ∷ []) c
 walk_on R a [] b c w r = (w, r)
 walk_on R a (x ∷ xs) b c w r = (w.0, walk_on R x xs b c w.1 r)
 
 -- from an element on a cycle, a step leads to one on a cycle
-cycle_on : {A : Type 0} (R : A → A → Type 0) (a : A) → IsOnCycle R a → (b : A) × R a b × IsOnCycle R b
+pub cycle_on : {A : Type 0} (R : A → A → Type 0) (a : A) → IsOnCycle R a → (b : A) × R a b × IsOnCycle R b
 cycle_on R a ([], w) = (a, w, ([], w))
 cycle_on R a (x ∷ xs, w) = (x, w.0, (xs ++ a ∷ [], walk_on R x xs a x w.1 w.0))
 

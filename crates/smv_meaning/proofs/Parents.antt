@@ -1,18 +1,11 @@
 -- Each instance has a module of the program, and stands behind the instance around it.
-use Rattle.std.proofs.Common.{◌≡◌, ◌<◌, ◌+◌, ℕ, zero, suc, Bool, true, false, cond, List, [], ◌∷◌, ◌++◌, length, refl, ap, sym, ◌∙◌, subst, arith, inl, inr, position}
-use Rattle.std.specs.Prelude.{Contains, Option, Some, None, ◌⊎◌, codes, filter_map, flat_map, slice_get}
-use Rattle.std.specs.List.{AllZip, position_from}
-use Rattle.std.specs.Str.{bytes_eq}
-use Rattle.std.proofs.lemmas.Bool.{false≢true}
-use Rattle.std.proofs.lemmas.Slice.Eq.{bytes_eq-Decides}
-use Rattle.std.proofs.lemmas.Iterator.Adapters.{position_from-zero}
+use Rattle.std.proofs.Common.{◌≡◌, ℕ, zero, suc, List, [], ◌∷◌, ◌++◌, refl, ap, sym, ◌∙◌, subst, inl, inr}
+use Rattle.std.specs.Prelude.{Contains, Option, Some, None, ◌⊎◌, flat_map}
 use Rattle.std.proofs.lemmas.List.Elements.{Contains-append_left, Contains-append_right, Contains-append_cases}
 use Rattle.smv_tree.specs.Trees.{Tree}
 use Rattle.smv_tree.specs.Models.{Body, Part, variable, define, assign, constraint, property, plain, instance}
-use Rattle.smv_meaning.specs.Instances.{Instance, Entry, is_instance, is_variable, instance_of, part_entries, entries_below, entries, instances, find_body, list_of}
-use Rattle.smv_meaning.specs.Definitions.{outer}
-use Rattle.smv_meaning.specs.Rows.{Row, IsNumber, IsRow, AreRows}
-use Rattle.smv_meaning.proofs.Lists.{contains_only, only_contained, contains_none, contains_cases, contains_later, contains_first}
+use Rattle.smv_meaning.specs.Instances.{Instance, Entry, is_instance, is_variable, part_entries, entries_below, find_body, list_of}
+use Rattle.smv_meaning.proofs.Lists.{only_contained, contains_none, contains_cases, contains_later, contains_first}
 
 -- an entry of the module of this name in the program, at these paths or right behind an instance of the list
 pub record StandsIn (program : List Body) (all : List Entry) (path up : List (List ℕ)) (i : Instance) : Type 0 where

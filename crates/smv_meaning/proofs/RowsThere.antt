@@ -1,7 +1,7 @@
 -- Each instance has a row.
-use Rattle.std.proofs.Common.{◌≡◌, ◌<◌, ◌+◌, ℕ, zero, suc, Bool, true, false, cond, List, [], ◌∷◌, ◌++◌, length, get_or, refl, ap, sym, ◌∙◌, subst, arith, inl, inr, position}
-use Rattle.std.specs.Prelude.{Contains, Option, Some, None, ◌⊎◌, codes, filter_map, slice_get}
-use Rattle.std.specs.List.{AllZip, position_from, cons_option}
+use Rattle.std.proofs.Common.{◌≡◌, ◌+◌, ℕ, suc, Bool, true, false, cond, List, [], ◌∷◌, ◌++◌, length, refl, ap, sym, ◌∙◌, subst, arith, inl, inr, position}
+use Rattle.std.specs.Prelude.{Contains, Some, ◌⊎◌, codes, filter_map, slice_get}
+use Rattle.std.specs.List.{AllZip, position_from}
 use Rattle.std.specs.Str.{bytes_eq}
 use Rattle.std.proofs.lemmas.Slice.Eq.{bytes_eq-Decides}
 use Rattle.std.proofs.lemmas.Iterator.Adapters.{position_from-zero}

@@ -1,6 +1,5 @@
 -- Where names come to an end, each moment has exactly one naming.
-use Rattle.std.proofs.Common.{◌≡◌, ◌+◌, ℕ, zero, suc, List, [], ◌∷◌, refl, ap, sym, ◌∙◌}
-use Rattle.std.specs.Prelude.{Contains, ⊤}
+use Rattle.std.proofs.Common.{◌≡◌, ℕ, zero, suc, List, [], refl, sym, ◌∙◌}
 use Rattle.std.proofs.Math.Path.{fun_ext}
 use Rattle.smv_tree.specs.Trees.{Tree}
 use Rattle.smv_tree.specs.Models.{Body}
@@ -9,7 +8,6 @@ use Rattle.smv_meaning.specs.Instances.{Variable, variables}
 use Rattle.smv_meaning.specs.Names.{Target, to_variable, to_body, to_instance, to_symbol, to_nothing, resolve}
 use Rattle.smv_meaning.specs.Values.{Naming, Snapshot, IsNaming, values, target_values}
 use Rattle.smv_meaning.specs.Runs.{HasValues}
-use Rattle.smv_meaning.specs.Definitions.{names_in}
 use Rattle.smv_meaning.specs.Cycles.{EachName, OnBody, Settles, IsSettled}
 use Rattle.smv_meaning.proofs.Agreement.{same_values}
 

@@ -9,7 +9,8 @@ use Rattle.smv_meaning.specs.LassoTruth.{TrueAt}
 use Rattle.smv_meaning.specs.SettledTruth.{Settled}
 use Rattle.smv_meaning.specs.Marks.{MarkedRun, Repeats}
 
--- what may be looked for at a bound: a path without a loop; that or any loop; the loop to a state of this number; the loop that goes back so many steps from the last state
+-- what may be looked for at a bound: a path without a loop; that or any loop; the loop to a state
+-- of this number; the loop that goes back so many steps from the last state
 pub data LoopChoice : Type 0 where
   no_loop : LoopChoice
   any_loop : LoopChoice
@@ -33,15 +34,19 @@ IsValid choice k = (mark : Option ℕ) × Admits choice k mark
 
 -- an expression of an instance holds in the state of this number
 abbrev pub HoldsIn : List Body → List (List ℕ) → List (List Value) → Tree → ℕ → Type 0
-HoldsIn program up states e p = IsSomeAnd (slice_get states p) (λ s. Holds program (at_state s) nothing_else up e)
+HoldsIn program up states e p =
+    IsSomeAnd (slice_get states p) (λ s. Holds program (at_state s) nothing_else up e)
 
--- a formula of an instance is false on states 0 to k: as a path, whatever comes after it, or as a lasso, whose last state is that of the mark again
+-- a formula of an instance is false on states 0 to k: as a path, whatever comes after it, or as a
+-- lasso, whose last state is that of the mark again
 abbrev pub Refutes : List Body → List (List ℕ) → Claim → ℕ → List (List Value) → Option ℕ → Type 0
 Refutes program up f k states None = Settled (HoldsIn program up states) k f false 0
 Refutes program up f k states (Some l) = Repeats states l × (¬ TrueAt k l (HoldsIn program up states) f 0)
 
--- a run of length k is a counterexample to a formula of an instance, on a path or a loop that the choice admits
-pub record IsCounterexample (program : List Body) (up : List (List ℕ)) (f : Claim) (k : ℕ) (choice : LoopChoice) (run : MarkedRun) : Type 0 where
+-- a run of length k is a counterexample to a formula of an instance, on a path or a loop that the
+-- choice admits
+pub record IsCounterexample (program : List Body) (up : List (List ℕ)) (f : Claim) (k : ℕ)
+    (choice : LoopChoice) (run : MarkedRun) : Type 0 where
   pub is_run : IsRun program run.states run.inputs
   pub has_length : length run.states ≡ k + 1
   pub admitted : Admits choice k run.mark
@@ -49,4 +54,5 @@ pub record IsCounterexample (program : List Body) (up : List (List ℕ)) (f : Cl
 
 -- the infinite word of a lasso k, l over some states begins with other states
 abbrev pub WordBegins : ℕ → ℕ → List (List Value) → List (List Value) → Type 0
-WordBegins k l states front = (p : ℕ) → p < length front → slice_get front p ≡ slice_get states (place k l 0 p)
+WordBegins k l states front =
+    (p : ℕ) → p < length front → slice_get front p ≡ slice_get states (place k l 0 p)

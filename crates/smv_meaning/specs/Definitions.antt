@@ -1,10 +1,11 @@
--- The definitions of a program, which are the parameters and the defines of its instances, and what their bodies use.
-use Rattle.std.specs.Prelude.{◌≡◌, ◌⊎◌, ℕ, Bool, true, false, List, [], ◌∷◌, ◌++◌, Contains, Option, Some, None, if◌then◌else◌, find, option_and_then, flat_map, filter_map}
+-- The definitions of a program, which are the parameters and the defines of its instances, and what
+-- their bodies use.
+use Rattle.std.specs.Prelude.{◌≡◌, ◌⊎◌, ℕ, Bool, false, List, [], ◌∷◌, ◌++◌, Contains, Option, Some, None, if◌then◌else◌, find, option_and_then, flat_map, filter_map}
 use Rattle.std.specs.List.{list_any}
 use Rattle.std.specs.Str.{bytes_eq}
 use Rattle.smv_tree.specs.declared.place.Place.{Place}
 use Rattle.smv_tree.specs.Trees.{Tree, Trees, Arms, truth, number, word, name, span, set, cases, choice, one, two, select, next, widen, const, count, no_trees, tree, no_arms, arm}
-use Rattle.smv_tree.specs.Models.{Body, Part, Formal, variable, define, assign, constraint, property}
+use Rattle.smv_tree.specs.Models.{Body, Part, Formal, variable, define}
 use Rattle.smv_meaning.specs.Instances.{Instance, instances}
 use Rattle.smv_meaning.specs.Names.{to_instance, instance_at, resolve}
 
@@ -35,7 +36,9 @@ abbrev mutual
   names_in_arms no_arms = []
   names_in_arms (arm c a bs) = names_in c ++ (names_in a ++ names_in_arms bs)
 
--- a parameter or a define of an instance: the names of the instance from the innermost outwards, its own name with the place of it, and its body with the names of the instance in which the body stands
+-- a parameter or a define of an instance: the names of the instance from the innermost outwards,
+-- its own name with the place of it, and its body with the names of the instance in which the body
+-- stands
 pub record Definition : Type 0 where
   pub up : List (List ℕ)
   pub name : List ℕ
@@ -50,7 +53,9 @@ outer (n ∷ around) = around
 
 -- the parameters of an instance, whose actuals stand in the instance around it
 abbrev pub parameters_of : List (List ℕ) → List Formal → List Tree → List Definition
-parameters_of up (f ∷ fs) (e ∷ es) = record { up = up; name = f.name; place = f.place; around = outer up; body = e } ∷ parameters_of up fs es
+parameters_of up (f ∷ fs) (e ∷ es) =
+    record { up = up; name = f.name; place = f.place; around = outer up; body = e }
+    ∷ parameters_of up fs es
 parameters_of up _ _ = []
 
 abbrev pub define_of : List (List ℕ) → Part → Option Definition
@@ -78,7 +83,8 @@ define_named i n = option_and_then (define_of i.up) (find (declares n) i.body.pa
 -- the parameter of this name, or else the define
 abbrev pub definition_named : Instance → List ℕ → Option Definition
 definition_named i n =
-    if list_any (λ f. bytes_eq f.name n) i.body.params then find (λ d. bytes_eq d.name n) (parameters_of i.up i.body.params i.actuals)
+    if list_any (λ f. bytes_eq f.name n) i.body.params
+    then find (λ d. bytes_eq d.name n) (parameters_of i.up i.body.params i.actuals)
     else define_named i n
 
 -- a name alone names a parameter or a define of its instance

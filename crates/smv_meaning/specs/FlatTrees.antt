@@ -1,5 +1,5 @@
 -- Expressions of a flat model, whose names are numbers, and their values.
-use Rattle.std.specs.Prelude.{◌≡◌, ℕ, ℤ, zero, suc, Bool, List, [], ◌∷◌, ◌++◌, pos, Option, Some, None, slice_get, unwrap_or}
+use Rattle.std.specs.Prelude.{ℕ, ℤ, Bool, List, [], ◌∷◌, ◌++◌, pos, slice_get, unwrap_or}
 use Rattle.smv_tree.specs.declared.place.Place.{Place}
 use Rattle.smv_tree.specs.declared.expr.Op1.{Op1}
 use Rattle.smv_tree.specs.declared.expr.Op2.{Op2}
@@ -83,4 +83,5 @@ abbrev mutual
 
   pub first_eval : Numbers → Numbers → FlatArms → List Value
   first_eval now later no_arms = []
-  first_eval now later (arm c a bs) = first_true (eval now later c) (eval now later a) (first_eval now later bs)
+  first_eval now later (arm c a bs) =
+      first_true (eval now later c) (eval now later a) (first_eval now later bs)

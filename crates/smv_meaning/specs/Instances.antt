@@ -1,12 +1,13 @@
 -- The instances of a program and their variables.
-use Rattle.std.specs.Prelude.{ℕ, zero, suc, Bool, List, [], ◌∷◌, ◌++◌, length, codes, Option, Some, None, if◌then◌else◌, flat_map, filter_map}
+use Rattle.std.specs.Prelude.{ℕ, zero, suc, List, [], ◌∷◌, ◌++◌, length, codes, Option, Some, None, if◌then◌else◌, flat_map, filter_map}
 use Rattle.std.specs.Str.{bytes_eq}
 use Rattle.smv_tree.specs.Trees.{Tree}
-use Rattle.smv_tree.specs.Models.{Body, Part, Shape, variable, define, assign, constraint, property, plain, instance}
+use Rattle.smv_tree.specs.Models.{Body, Part, variable, plain, instance}
 use Rattle.smv_tree.specs.declared.program.Kind.{Kind}
 use Rattle.smv_tree.specs.declared.value.Ty.{Ty}
 
--- an instance of a module: its path from the main module, the same names from the innermost outwards, and the actual parameters, which stand in the instance around it
+-- an instance of a module: its path from the main module, the same names from the innermost
+-- outwards, and the actual parameters, which stand in the instance around it
 pub record Instance : Type 0 where
   pub path : List (List ℕ)
   pub up : List (List ℕ)
@@ -35,9 +36,12 @@ list_of f None = []
 list_of f (Some x) = f x
 
 -- what a declaration brings in an instance; below gives what an instance variable brings
-abbrev pub part_entries : (List (List ℕ) → List (List ℕ) → List ℕ → List Tree → List Entry) → List (List ℕ) → List (List ℕ) → Part → List Entry
-part_entries below path up (variable kind n p (plain type q)) = is_variable (record { path = path ++ n ∷ []; kind = kind; type = type }) ∷ []
-part_entries below path up (variable kind n p (instance m q actuals)) = below (path ++ n ∷ []) (n ∷ up) m actuals
+abbrev pub part_entries : (List (List ℕ) → List (List ℕ) → List ℕ → List Tree → List Entry)
+    → List (List ℕ) → List (List ℕ) → Part → List Entry
+part_entries below path up (variable kind n p (plain type q)) =
+    is_variable (record { path = path ++ n ∷ []; kind = kind; type = type }) ∷ []
+part_entries below path up (variable kind n p (instance m q actuals)) =
+    below (path ++ n ∷ []) (n ∷ up) m actuals
 part_entries below path up _ = []
 
 -- an instance and all that it brings, depth first in the order of the text, down to this depth
@@ -45,10 +49,12 @@ abbrev pub entries_below : ℕ → List Body → List (List ℕ) → List (List 
 entries_below zero program path up m actuals = []
 entries_below (suc depth) program path up m actuals =
     list_of
-    (λ body. is_instance (record { path = path; up = up; body = body; actuals = actuals }) ∷ flat_map (part_entries (entries_below depth program) path up) body.parts)
+    (λ body. is_instance (record { path = path; up = up; body = body; actuals = actuals })
+    ∷ flat_map (part_entries (entries_below depth program) path up) body.parts)
     (find_body m program)
 
--- all that a program brings. Where no module contains itself, instances are nested no deeper than there are modules
+-- all that a program brings. Where no module contains itself, instances are nested no deeper than
+-- there are modules
 abbrev pub entries : List Body → List Entry
 entries program = entries_below (length program) program [] [] (codes "main") []
 

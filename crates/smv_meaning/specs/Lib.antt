@@ -4,8 +4,10 @@ pub mod Names
 pub mod Values
 pub mod Runs
 pub mod Walks
+pub mod FirstCycles
 pub mod Definitions
 pub mod Cycles
+pub mod ModuleCycles
 pub mod Places
 pub mod LassoTruth
 pub mod SettledTruth
@@ -17,3 +19,5 @@ pub mod PartialTraces
 pub mod Rows
 pub mod FlatTrees
 pub mod FlatLines
+pub mod Example
+pub mod NestedExample

@@ -2,7 +2,8 @@
 use Rattle.std.specs.Prelude.{◌≡◌, ℕ, ◌-◌, ◌<◌, List, Option, slice_get, length}
 use Rattle.smv_tree.specs.declared.value.Value.{Value}
 
--- the states of a run, the inputs between them, and the number of a state that the last one repeats, if one is marked
+-- the states of a run, the inputs between them, and the number of a state that the last one
+-- repeats, if one is marked
 pub record MarkedRun : Type 0 where
   pub states : List (List Value)
   pub inputs : List (List Value)

@@ -1,14 +1,13 @@
 -- What a path of names stands for in an instance.
-use Rattle.std.specs.Prelude.{ℕ, Bool, true, false, List, [], ◌∷◌, ◌++◌, codes, Option, Some, None, if◌then◌else◌, find, map, position, slice_get}
+use Rattle.std.specs.Prelude.{ℕ, Bool, true, false, List, [], ◌∷◌, ◌++◌, codes, Option, Some, None, if◌then◌else◌, find, position, slice_get}
 use Rattle.std.specs.List.{list_any}
 use Rattle.std.specs.Str.{bytes_eq}
 use Rattle.smv_tree.specs.Trees.{Tree, name}
-use Rattle.smv_tree.specs.Models.{Body, Part, Shape, Formal, variable, define, assign, constraint, property, plain, instance}
+use Rattle.smv_tree.specs.Models.{Body, Part, variable, define, plain, instance}
 use Rattle.smv_tree.specs.declared.value.Value.{Value}
 use Rattle.smv_tree.specs.declared.value.Value.TheVariants.{Sym}
-use Rattle.smv_tree.specs.declared.value.Ty.{Ty}
 use Rattle.smv_tree.specs.declared.value.Ty.TheVariants.{Enum}
-use Rattle.smv_meaning.specs.Instances.{Instance, Entry, instances, list_of}
+use Rattle.smv_meaning.specs.Instances.{Instance, instances}
 
 -- what a path of names stands for
 pub data Target : Type 0 where
@@ -34,8 +33,10 @@ instance_at all up = find (λ i. same_names i.up up) all
 
 -- what a declaration makes of a name, if it declares it
 abbrev pub declared : List (List ℕ) → List (List ℕ) → List ℕ → Part → Option Target
-declared path up n (variable kind m p (plain type q)) = if bytes_eq m n then Some (to_variable (path ++ m ∷ [])) else None
-declared path up n (variable kind m p (instance b q actuals)) = if bytes_eq m n then Some (to_instance (m ∷ up)) else None
+declared path up n (variable kind m p (plain type q)) =
+    if bytes_eq m n then Some (to_variable (path ++ m ∷ [])) else None
+declared path up n (variable kind m p (instance b q actuals)) =
+    if bytes_eq m n then Some (to_instance (m ∷ up)) else None
 declared path up n (define m p e) = if bytes_eq m n then Some (to_body up e) else None
 declared path up n _ = None
 
@@ -59,7 +60,8 @@ names_symbol n _ = false
 
 -- a symbol of an enumeration anywhere in the program
 abbrev pub symbol_of : List Body → List ℕ → Target
-symbol_of program n = if list_any (λ b. list_any (names_symbol n) b.parts) program then to_symbol n else to_nothing
+symbol_of program n =
+    if list_any (λ b. list_any (names_symbol n) b.parts) program then to_symbol n else to_nothing
 
 -- what an actual parameter stands for: another name's target in the instance around, or an expression there
 abbrev pub actual_target : List (List ℕ) → (List (List ℕ) → Target) → Tree → Target
@@ -71,22 +73,31 @@ abbrev pub first_target : List Body → (Tree → Target) → Instance → List 
 first_target program actual i n =
     elim (position (λ f. bytes_eq f.name n) i.body.params) [
       | Some k ↦ or_else (elim (slice_get i.actuals k) [ Some e ↦ Some (actual e) | None ↦ None ]) to_nothing
-      | None ↦ member_of i.path i.up n i.body.parts (if bytes_eq (codes "self") n then to_instance i.up else symbol_of program n)
+      | None ↦ member_of i.path i.up n i.body.parts
+          (if bytes_eq (codes "self") n then to_instance i.up else symbol_of program n)
     ]
 
 -- what further names stand for behind an instance: its variables, instances and defines
 abbrev pub follow : List Instance → Target → List (List ℕ) → Target
 follow all t [] = t
 follow all (to_instance up) (n ∷ rest) =
-    elim (instance_at all up) [ Some i ↦ follow all (member_of i.path i.up n i.body.parts to_nothing) rest | None ↦ to_nothing ]
+    elim (instance_at all up) [
+      | Some i ↦ follow all (member_of i.path i.up n i.body.parts to_nothing) rest
+      | None ↦ to_nothing
+    ]
 follow all t (n ∷ rest) = to_nothing
 
 abbrev pub resolve_from : List Body → (Tree → Target) → List (List ℕ) → List (List ℕ) → Target
 resolve_from program actual up [] = to_nothing
 resolve_from program actual up (n ∷ rest) =
-    elim (instance_at (instances program) up) [ Some i ↦ follow (instances program) (first_target program actual i n) rest | None ↦ to_nothing ]
+    elim (instance_at (instances program) up) [
+      | Some i ↦ follow (instances program) (first_target program actual i n) rest
+      | None ↦ to_nothing
+    ]
 
--- what a path of names stands for in the instance of these names from the innermost outwards; the main module has no parameters
+-- what a path of names stands for in the instance of these names from the innermost outwards; the
+-- main module has no parameters
 abbrev pub resolve : List Body → List (List ℕ) → List (List ℕ) → Target
 resolve program [] = resolve_from program (λ _. to_nothing) []
-resolve program (n ∷ around) = resolve_from program (actual_target around (resolve program around)) (n ∷ around)
+resolve program (n ∷ around) =
+    resolve_from program (actual_target around (resolve program around)) (n ∷ around)

@@ -1,5 +1,5 @@
 -- What each operator makes of the values of its operands: one value, or none.
-use Rattle.std.specs.Prelude.{ℕ, zero, suc, ◌+◌, ◌-◌, ◌*◌, ◌/◌, ◌%◌, ◌^◌, Bool, true, false, not, ◌&&◌, ◌||◌, ◌==◌, nat_lt, nat_le, if◌then◌else◌, List, [], ◌∷◌, ◌++◌, map, length, ℤ, pos, negsuc, neg_ℤ, ◌+ℤ◌, ◌-ℤ◌, ◌*ℤ◌, bit_and, bit_or, bit_xor, int_div, int_rem, int_lt}
+use Rattle.std.specs.Prelude.{ℕ, zero, suc, ◌+◌, ◌-◌, ◌*◌, ◌/◌, ◌%◌, ◌^◌, Bool, true, false, not, ◌&&◌, ◌||◌, ◌==◌, nat_le, if◌then◌else◌, List, [], ◌∷◌, ℤ, pos, negsuc, neg_ℤ, ◌+ℤ◌, ◌-ℤ◌, ◌*ℤ◌, bit_and, bit_or, bit_xor, int_div, int_rem, int_lt}
 use Rattle.std.specs.List.{list_any}
 use Rattle.std.specs.Ordering.{int_eq}
 use Rattle.std.specs.Int.{int_div_euclid}
@@ -58,12 +58,19 @@ one_value o (Int z) = one_int o z
 one_value o (Bits w) = one_word o w
 one_value o (Sym n) = []
 
+abbrev pub same_truth : Bool → Bool → Bool
+same_truth a b = (a && b) || (not a && not b)
+
+-- an unsigned word is never a signed one, nor one of another width
+abbrev pub same_word : Word → Word → Bool
+same_word a b = same_truth a.signed b.signed && (a.width == b.width && a.bits == b.bits)
+
 -- the two values are the same
 abbrev pub same_value : Value → Value → Bool
-same_value (Truth a) (Truth b) = (a && b) || (not a && not b)
+same_value (Truth a) (Truth b) = same_truth a b
 same_value (Int a) (Int b) = int_eq a b
 same_value (Sym a) (Sym b) = bytes_eq a b
-same_value (Bits a) (Bits b) = a.bits == b.bits
+same_value (Bits a) (Bits b) = same_word a b
 same_value _ _ = false
 
 abbrev pub two_truths : Op2 → Bool → Bool → List Value
@@ -91,20 +98,30 @@ two_ints two.Le a b = Truth (not (int_lt b a)) ∷ []
 two_ints two.Ge a b = Truth (not (int_lt a b)) ∷ []
 two_ints _ a b = []
 
--- a shift by an amount that is not negative and at most the width; a signed word goes right with copies of its sign
+-- a shift by an amount that is not negative and at most the width; a signed word goes right with
+-- copies of its sign
 abbrev pub shifted : Op2 → Word → ℤ → List Value
-shifted two.Shl w (pos k) = if nat_le k w.width then Bits (with_bits w (w.bits * 2 ^ k % 2 ^ w.width)) ∷ [] else []
-shifted two.Shr w (pos k) = if nat_le k w.width then Bits (word_of w.signed w.width (int_div_euclid (word_number w) (pos (2 ^ k)))) ∷ [] else []
+shifted two.Shl w (pos k) =
+    if nat_le k w.width then Bits (with_bits w (w.bits * 2 ^ k % 2 ^ w.width)) ∷ [] else []
+shifted two.Shr w (pos k) =
+    if nat_le k w.width
+    then Bits (word_of w.signed w.width (int_div_euclid (word_number w) (pos (2 ^ k)))) ∷ []
+    else []
 shifted _ w _ = []
 
 -- arithmetic and order of two words go by their numbers, the rest by their bits
 abbrev pub two_words : Op2 → Word → Word → List Value
-two_words two.Concat a b = Bits (record { signed = false; width = a.width + b.width; bits = a.bits * 2 ^ b.width + b.bits }) ∷ []
+two_words two.Concat a b =
+    Bits (record { signed = false; width = a.width + b.width; bits = a.bits * 2 ^ b.width + b.bits }) ∷ []
 two_words two.Add a b = Bits (word_of a.signed a.width (word_number a +ℤ word_number b)) ∷ []
 two_words two.Sub a b = Bits (word_of a.signed a.width (word_number a -ℤ word_number b)) ∷ []
 two_words two.Mul a b = Bits (word_of a.signed a.width (word_number a *ℤ word_number b)) ∷ []
-two_words two.Div a b = unless_zero (word_number b) (Bits (word_of a.signed a.width (int_div (word_number a) (word_number b))) ∷ [])
-two_words two.Mod a b = unless_zero (word_number b) (Bits (word_of a.signed a.width (int_rem (word_number a) (word_number b))) ∷ [])
+two_words two.Div a b =
+    unless_zero (word_number b)
+    (Bits (word_of a.signed a.width (int_div (word_number a) (word_number b))) ∷ [])
+two_words two.Mod a b =
+    unless_zero (word_number b)
+    (Bits (word_of a.signed a.width (int_rem (word_number a) (word_number b))) ∷ [])
 two_words two.Shl a b = shifted two.Shl a (word_number b)
 two_words two.Shr a b = shifted two.Shr a (word_number b)
 two_words two.Lt a b = Truth (int_lt (word_number a) (word_number b)) ∷ []
@@ -133,22 +150,28 @@ two_values two.Eq a b = Truth (same_value a b) ∷ []
 two_values two.Ne a b = Truth (not (same_value a b)) ∷ []
 two_values o a b = by_kind o a b
 
--- the value on the left is among those on the right; none where either side has none
+-- the one value on the left is among those on the right; none where the left has not one, or the
+-- right has none
 abbrev pub member : List Value → List Value → List Value
-member [] right = []
-member left [] = []
-member left right = Truth (list_any (λ a. list_any (same_value a) right) left) ∷ []
+member (a ∷ []) (b ∷ right) = Truth (list_any (same_value a) (b ∷ right)) ∷ []
+member left right = []
 
 -- the bits from high down to low
 abbrev pub selected : ℕ → ℕ → Value → List Value
-selected high low (Bits w) = Bits (record { signed = false; width = high + 1 - low; bits = w.bits / 2 ^ low % 2 ^ (high + 1 - low) }) ∷ []
+selected high low (Bits w) =
+    let width : ℕ = high + 1 - low in
+    Bits (record { signed = false; width = width; bits = w.bits / 2 ^ low % 2 ^ width }) ∷ []
 selected high low _ = []
 
 -- n bits, and the sign bit kept where a signed word loses some
 abbrev pub resized : ℕ → Word → Word
 resized n w =
     if nat_le w.width n then word_of w.signed n (word_number w)
-    else if w.signed then record { signed = true; width = n; bits = (if is_high w then 2 ^ (n - 1) else 0) + w.bits % 2 ^ (n - 1) }
+    else if w.signed then (record {
+      signed = true;
+      width = n;
+      bits = (if is_high w then 2 ^ (n - 1) else 0) + w.bits % 2 ^ (n - 1);
+    })
     else record { signed = false; width = n; bits = w.bits % 2 ^ n }
 
 -- `resize` to n bits, or `extend` by n bits

@@ -13,7 +13,8 @@ pub record Stated : Type 0 where
   pub variable : ℕ
   pub value : Value
 
--- what is stated of each state and of each input, and the number of the state that the last one repeats, if one is marked
+-- what is stated of each state and of each input, and the number of the state that the last one
+-- repeats, if one is marked
 pub record Partial : Type 0 where
   pub states : List (List Stated)
   pub inputs : List (List Stated)
@@ -26,18 +27,22 @@ of_state v = is_of_state v.kind
 abbrev pub of_input : Variable → Bool
 of_input v = not (is_of_state v.kind)
 
--- the values of the chosen variables, in their order, have a stated one: its variable is chosen, and its value stands at the place of that variable among the chosen
-pub record HasStated (chosen : Variable → Bool) (vars : List Variable) (xs : List Value) (s : Stated) : Type 0 where
+-- the values of the chosen variables, in their order, have a stated one: its variable is chosen,
+-- and its value stands at the place of that variable among the chosen
+pub record HasStated (chosen : Variable → Bool) (vars : List Variable) (xs : List Value) (s : Stated)
+    : Type 0 where
   pub is_chosen : IsSomeAnd (slice_get vars s.variable) (λ v. IsTrue (chosen v))
   pub has_value : slice_get xs (length (filter chosen (take s.variable vars))) ≡ Some s.value
 
 -- several states, or inputs, have all that is stated of each
 abbrev pub HaveStated : (Variable → Bool) → List Variable → List (List Value) → List (List Stated) → Type 0
 HaveStated chosen vars [] [] = ⊤
-HaveStated chosen vars (xs ∷ xss) (ss ∷ sss) = AllByRecursion (HasStated chosen vars xs) ss × HaveStated chosen vars xss sss
+HaveStated chosen vars (xs ∷ xss) (ss ∷ sss) =
+    AllByRecursion (HasStated chosen vars xs) ss × HaveStated chosen vars xss sss
 HaveStated chosen vars _ _ = ⊥
 
--- a run extends a partial trace: it has as many states, all stated values and the same mark, and the marked state and the last one are equal
+-- a run extends a partial trace: it has as many states, all stated values and the same mark, and
+-- the marked state and the last one are equal
 pub record Extends (program : List Body) (run : MarkedRun) (partial : Partial) : Type 0 where
   pub is_run : IsRun program run.states run.inputs
   pub states_agree : HaveStated of_state (variables program) run.states partial.states
@@ -48,7 +53,8 @@ pub record Extends (program : List Body) (run : MarkedRun) (partial : Partial) :
 -- all values of the chosen variables, stated; n is the number of the first of these variables
 abbrev pub all_stated : (Variable → Bool) → ℕ → List Variable → List Value → List Stated
 all_stated chosen n (v ∷ vars) (x ∷ xs) =
-    if chosen v then record { variable = n; value = x } ∷ all_stated chosen (suc n) vars xs else all_stated chosen (suc n) vars (x ∷ xs)
+    if chosen v then record { variable = n; value = x } ∷ all_stated chosen (suc n) vars xs
+    else all_stated chosen (suc n) vars (x ∷ xs)
 all_stated chosen n _ _ = []
 
 -- the partial trace that states all of a run

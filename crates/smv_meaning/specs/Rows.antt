@@ -1,12 +1,13 @@
 -- The instances of a program by number.
-use Rattle.std.specs.Prelude.{◌≡◌, ℕ, List, [], ◌∷◌, ◌++◌, Contains, Option, Some, None, position, slice_get}
+use Rattle.std.specs.Prelude.{◌≡◌, ℕ, List, [], ◌∷◌, ◌++◌, Contains, Some, position, slice_get}
 use Rattle.std.specs.List.{AllZip}
 use Rattle.std.specs.Str.{bytes_eq}
 use Rattle.smv_tree.specs.Models.{Body}
 use Rattle.smv_meaning.specs.Instances.{Instance, instances}
 use Rattle.smv_meaning.specs.Definitions.{outer}
 
--- what is told of an instance: its path, the number of its module in the program, and the number of the instance around it
+-- what is told of an instance: its path, the number of its module in the program, and the number of
+-- the instance around it
 pub record Row : Type 0 where
   pub path : List (List ℕ)
   pub module_number : ℕ

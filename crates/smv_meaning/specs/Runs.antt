@@ -1,9 +1,8 @@
 -- What holds at a moment, and the runs of a program.
-use Rattle.std.specs.Prelude.{◌≡◌, ◌<◌, ◌⊎◌, ℕ, Bool, true, List, [], ◌∷◌, ◌++◌, Contains, ⊤}
+use Rattle.std.specs.Prelude.{◌≡◌, ℕ, true, List, [], ◌∷◌, ◌++◌, Contains, ⊤}
 use Rattle.std.specs.List.{AllByRecursion}
 use Rattle.smv_tree.specs.Trees.{Tree}
-use Rattle.smv_tree.specs.Models.{Body, Part, variable, define, assign, constraint, property}
-use Rattle.smv_tree.specs.declared.program.Kind.{Kind}
+use Rattle.smv_tree.specs.Models.{Body, Part, assign, constraint}
 use Rattle.smv_tree.specs.declared.program.Kind.TheVariants as kind
 use Rattle.smv_tree.specs.declared.program.Moment.TheVariants as moment
 use Rattle.smv_tree.specs.declared.program.Section.TheVariants as section
@@ -28,7 +27,9 @@ IsInput program i = AreLegal (input_variables (variables program)) i
 
 -- an expression has exactly these values at a moment and the next one
 abbrev pub HasValues : List Body → Snapshot → Snapshot → List (List ℕ) → Tree → List Value → Type 0
-HasValues program m n up e vs = (now : Naming) × (later : Naming) × IsNaming program m now × IsNaming program n later × (values now later up e ≡ vs)
+HasValues program m n up e vs =
+    (now : Naming) × (later : Naming) × IsNaming program m now × IsNaming program n later
+    × (values now later up e ≡ vs)
 
 -- a constraint holds where its one value is true
 abbrev pub Holds : List Body → Snapshot → Snapshot → List (List ℕ) → Tree → Type 0
@@ -38,9 +39,13 @@ Holds program m n up e = HasValues program m n up e (Truth true ∷ [])
 abbrev pub nothing_else : Snapshot
 nothing_else = record { state = []; input = [] }
 
--- a variable has one of the values of an expression: the value that it has at one moment, of those that the expression has at another
+-- a variable has one of the values of an expression: the value that it has at one moment, of those
+-- that the expression has at another
 abbrev pub Takes : List Body → Snapshot → Snapshot → Snapshot → Instance → List ℕ → Tree → Type 0
-Takes program when m n i x e = (vs : List Value) × (v : Value) × HasValues program m n i.up e vs × (variable_values (variables program) when (i.path ++ x ∷ []) ≡ v ∷ []) × Contains vs v
+Takes program when m n i x e =
+    (vs : List Value) × (v : Value) × HasValues program m n i.up e vs
+    × (variable_values (variables program) when (i.path ++ x ∷ []) ≡ v ∷ [])
+    × Contains vs v
 
 -- what a declaration asks of the first state
 abbrev pub AsksFirst : List Body → Snapshot → Instance → Part → Type 0
@@ -87,7 +92,8 @@ IsStep program s i t =
 -- from a state on, each state is allowed, and each input leads to the next state
 abbrev pub IsPath : List Body → List Value → List (List Value) → List (List Value) → Type 0
 IsPath program s [] [] = IsAllowed program s
-IsPath program s (t ∷ states) (i ∷ inputs) = IsAllowed program s × IsStep program s i t × IsPath program t states inputs
+IsPath program s (t ∷ states) (i ∷ inputs) =
+    IsAllowed program s × IsStep program s i t × IsPath program t states inputs
 IsPath program s _ _ = ⊥
 
 -- a run: a first state, and the states and inputs after it

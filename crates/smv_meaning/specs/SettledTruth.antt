@@ -28,14 +28,16 @@ pub record HoldsUpTo (k : ℕ) (first second : ℕ → Type 0) (p : ℕ) : Type 
   pub there : first when
   pub up_to : (q : ℕ) → p ≤ q → q ≤ when → second q
 
--- two formulas are settled the same way, or opposite ways; the formulas are given by where each truth of them is settled
+-- two formulas are settled the same way, or opposite ways; the formulas are given by where each
+-- truth of them is settled
 abbrev pub Agree : (Bool → ℕ → Type 0) → (Bool → ℕ → Type 0) → ℕ → Type 0
 Agree f g p = (f true p × g true p) ⊎ (f false p × g false p)
 
 abbrev pub Differ : (Bool → ℕ → Type 0) → (Bool → ℕ → Type 0) → ℕ → Type 0
 Differ f g p = (f true p × g false p) ⊎ (f false p × g true p)
 
--- the states 0 to k settle that a formula is true at place p, or that it is false there; holds says at which places an expression does
+-- the states 0 to k settle that a formula is true at place p, or that it is false there; holds says
+-- at which places an expression does
 abbrev pub Settled : (Tree → ℕ → Type 0) → ℕ → Claim → Bool → ℕ → Type 0
 Settled holds k (atom e) true p = holds e p
 Settled holds k (atom e) false p = ¬ holds e p
@@ -60,10 +62,14 @@ Settled holds k (some_time f) false p = ⊥
 Settled holds k (always f) true p = ⊥
 Settled holds k (always f) false p = Sometime k (Settled holds k f false) p
 Settled holds k (both op.Until f g) true p = HoldsBefore k (Settled holds k f true) (Settled holds k g true) p
-Settled holds k (both op.Until f g) false p = HoldsUpTo k (Settled holds k f false) (Settled holds k g false) p
-Settled holds k (both op.Releases f g) true p = HoldsUpTo k (Settled holds k f true) (Settled holds k g true) p
-Settled holds k (both op.Releases f g) false p = HoldsBefore k (Settled holds k f false) (Settled holds k g false) p
+Settled holds k (both op.Until f g) false p =
+    HoldsUpTo k (Settled holds k f false) (Settled holds k g false) p
+Settled holds k (both op.Releases f g) true p =
+    HoldsUpTo k (Settled holds k f true) (Settled holds k g true) p
+Settled holds k (both op.Releases f g) false p =
+    HoldsBefore k (Settled holds k f false) (Settled holds k g false) p
 
--- the infinite word of the lasso k, l begins with the states 0 to m: the same expressions hold; seen says which do on those states
+-- the infinite word of the lasso k, l begins with the states 0 to m: the same expressions hold;
+-- seen says which do on those states
 abbrev pub BeginsSo : ℕ → ℕ → ℕ → (Tree → ℕ → Type 0) → (Tree → ℕ → Type 0) → Type 0
 BeginsSo m k l seen holds = (e : Tree) (p : ℕ) → p ≤ m → seen e p ↔ holds e (place k l 0 p)

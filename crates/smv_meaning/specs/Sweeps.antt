@@ -1,7 +1,8 @@
 -- Tests of what is reached from a place on, made in one sweep over the places from the last to the first.
 use Rattle.std.specs.Prelude.{ℕ, zero, suc, ◌+◌, ◌-◌, ◌<◌, Bool, false, ◌||◌, ◌&&◌, Decides}
 
--- at one of the next so many places, from p on, the second test passes and at each place before it the first; or the first passes at all of them, and last is true
+-- at one of the next so many places, from p on, the second test passes and at each place before it
+-- the first; or the first passes at all of them, and last is true
 unfoldable pub swept : (ℕ → Bool) → (ℕ → Bool) → Bool → ℕ → ℕ → Bool
 swept first second last p zero = last
 swept first second last p (suc m) = second p || (first p && swept first second last (p + 1) m)
@@ -18,7 +19,8 @@ DecidesBelow k test holds = (p : ℕ) → p < k → Decides (test p) (holds p)
 abbrev pub around : ℕ → ℕ → (ℕ → Bool) → (ℕ → Bool) → ℕ → Bool
 around k l first second = ahead k first second (ahead k first second false l)
 
--- what one sweep over the places 0 to k of a path tests: the second at some place, and the first at each place before it
+-- what one sweep over the places 0 to k of a path tests: the second at some place, and the first at
+-- each place before it
 abbrev pub along : ℕ → (ℕ → Bool) → (ℕ → Bool) → ℕ → Bool
 along k first second = ahead (k + 1) first second false
 

@@ -3,7 +3,6 @@ use Rattle.std.specs.Prelude.{◌≡◌, ℕ, Bool, true, false, List, [], ◌�
 use Rattle.smv_tree.specs.Trees.{Tree, Trees, Arms, truth, number, word, name, span, set, cases, choice, one, two, select, next, widen, const, count, no_trees, tree, no_arms, arm}
 use Rattle.smv_tree.specs.declared.program.Kind.{Kind}
 use Rattle.smv_tree.specs.declared.program.Kind.TheVariants as kind
-use Rattle.smv_tree.specs.declared.expr.Op1.{Op1}
 use Rattle.smv_tree.specs.declared.expr.Op2.{Op2}
 use Rattle.smv_tree.specs.declared.expr.Op2.TheVariants as op
 use Rattle.smv_tree.specs.declared.value.Value.{Value}
@@ -42,7 +41,8 @@ abbrev pub first_true : List Value → List Value → List Value → List Value
 first_true (Truth true ∷ []) first others = first
 first_true _ first others = others
 
--- the values of an expression in an instance; now has the values of names at this moment, later those at the next
+-- the values of an expression in an instance; now has the values of names at this moment, later
+-- those at the next
 abbrev mutual
   pub values : Naming → Naming → List (List ℕ) → Tree → List Value
   values now later up (truth p b) = Truth b ∷ []
@@ -52,7 +52,8 @@ abbrev mutual
   values now later up (span p low high) = span_from low (span_length low high)
   values now later up (set p es) = all_values now later up es
   values now later up (cases p bs) = first_values now later up bs
-  values now later up (choice p c a b) = chosen (values now later up c) (values now later up a) (values now later up b)
+  values now later up (choice p c a b) =
+      chosen (values now later up c) (values now later up a) (values now later up b)
   values now later up (one p o a) = on_one (one_value o) (values now later up a)
   values now later up (two p o a b) = on_both o (values now later up a) (values now later up b)
   values now later up (select p a high low) = on_one (selected high low) (values now later up a)
@@ -74,7 +75,8 @@ abbrev mutual
   -- those of the first branch whose condition is true
   pub first_values : Naming → Naming → List (List ℕ) → Arms → List Value
   first_values now later up no_arms = []
-  first_values now later up (arm c a bs) = first_true (values now later up c) (values now later up a) (first_values now later up bs)
+  first_values now later up (arm c a bs) =
+      first_true (values now later up c) (values now later up a) (first_values now later up bs)
 
 -- one moment of a run: the values of the state and frozen variables, and those of the inputs, in their order
 pub record Snapshot : Type 0 where
@@ -101,7 +103,8 @@ value_at _ path _ = []
 
 -- the value of a variable at a moment
 abbrev pub variable_values : List Variable → Snapshot → List (List ℕ) → List Value
-variable_values vars m path = value_at (state_variables vars) path m.state ++ value_at (input_variables vars) path m.input
+variable_values vars m path =
+    value_at (state_variables vars) path m.state ++ value_at (input_variables vars) path m.input
 
 -- the values of what a path of names stands for
 abbrev pub target_values : List Variable → Snapshot → Naming → Target → List Value
@@ -111,6 +114,9 @@ target_values vars m now (to_instance up) = []
 target_values vars m now (to_symbol n) = Sym n ∷ []
 target_values vars m now to_nothing = []
 
--- names have their values at a moment: a variable its value, a define the values of its body in its own instance, a parameter those of the actual in the instance around
+-- names have their values at a moment: a variable its value, a define the values of its body in its
+-- own instance, a parameter those of the actual in the instance around
 abbrev pub IsNaming : List Body → Snapshot → Naming → Type 0
-IsNaming program m now = (up names : List (List ℕ)) → now up names ≡ target_values (variables program) m now (resolve program up names)
+IsNaming program m now =
+    (up names : List (List ℕ))
+    → now up names ≡ target_values (variables program) m now (resolve program up names)

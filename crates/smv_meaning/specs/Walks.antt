@@ -1,5 +1,5 @@
--- Walks along a relation, and cycles.
-use Rattle.std.specs.Prelude.{◌≤◌, List, [], ◌∷◌, length}
+-- Walks along a relation, cycles, and orders in which there are none.
+use Rattle.std.specs.Prelude.{◌≤◌, List, [], ◌∷◌, ◌++◌, length, ⊤}
 
 -- a walk from a to b: each step is one of the relation, and these stand between, in order
 abbrev pub IsWalk : {A : Type 0} → (A → A → Type 0) → A → List A → A → Type 0
@@ -13,3 +13,9 @@ IsOnCycle {A} R a = (xs : List A) × IsWalk R a xs a
 -- no walk from a back to itself is shorter
 abbrev pub IsShortestCycle : {A : Type 0} → (A → A → Type 0) → A → List A → Type 0
 IsShortestCycle {A} R a xs = IsWalk R a xs a × ((ys : List A) → IsWalk R a ys a → length xs ≤ length ys)
+
+-- each element of a list is related only to what is among those before it, and these
+abbrev pub IsTopological : {A : Type 0} → (A → A → Type 0) → (List A → A → Type 0) → List A → List A → Type 0
+IsTopological R among before [] = ⊤
+IsTopological {A} R among before (a ∷ as_) =
+    ((b : A) → R a b → among before b) × IsTopological R among (before ++ a ∷ []) as_

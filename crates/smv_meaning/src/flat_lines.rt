@@ -18,6 +18,7 @@ pub fn line_settles()
 /// Over a line, an expression has exactly the values of the flat expression that it fits.
 pub fn flat_values_are_those_of_the_program()
     ensures { (program : List Body) (defs : List Definition) (bodies : List Flat) (m n : Snapshot) (up : List (List ℕ))
-        (e : Tree) (f : Flat) (vs : List Value) → IsLine program defs bodies → Fits program defs up e f →
+        (e : Tree) (f : Flat) (vs : List Value) → IsLine program defs bodies →
+        Fits program defs up e f →
         HasValues program m n up e vs ↔ (vs ≡ eval (numbers_at program bodies m) (numbers_at program bodies n) f) }
 {}

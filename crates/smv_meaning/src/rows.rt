@@ -1,6 +1,7 @@
-ghost use Rattle.std.specs.Prelude.{◌≡◌, ◌⊎◌, ℕ, List, Contains, Some, slice_get};
+ghost use Rattle.std.specs.Prelude.{◌≡◌, ◌≤◌, ◌⊎◌, ℕ, List, [], length, codes, Contains, Some, slice_get};
 ghost use Rattle.smv_tree.specs.Models.{Body};
-ghost use Rattle.smv_meaning.specs.Instances.{Instance, instances};
+ghost use Rattle.smv_meaning.specs.Instances.{Instance, entries_below, entries, instances};
+ghost use Rattle.smv_meaning.specs.ModuleCycles.{HasModuleCycle};
 ghost use Rattle.smv_meaning.specs.Rows.{Row, IsRow, AreRows, IsMain, IsBehind};
 
 /// Each instance is the main one, or stands right behind another.
@@ -14,4 +15,10 @@ pub fn instances_have_rows()
     ensures there { (program : List Body) → (rows : List Row) × AreRows program rows }
     ensures right { (program : List Body) (i : Instance) (r : Row) → Contains (instances program) i →
         IsRow program i r → slice_get program r.module_number ≡ Some i.body }
+{}
+
+/// Where no module contains itself, going down further than there are modules brings nothing more.
+pub fn no_instance_is_left_out()
+    ensures { (program : List Body) (n : ℕ) → ¬ HasModuleCycle program → length program ≤ n →
+        entries_below n program [] [] (codes "main") [] ≡ entries program }
 {}

@@ -1,15 +1,16 @@
 -- One of a sort and further ones, each behind a comma.
 use Rattle.std.proofs.Common.{◌≡◌, ◌<◌, ◌≤◌, ◌+◌, ℕ, Bool, true, false, cond, List, [], ◌∷◌, ◌++◌, length, Ok, Err, refl, sym, ◌∙◌, ap, append-nil, arith}
-use Rattle.smv_parse.specs.declared.mark.Mark.TheVariants as marks
-use Rattle.smv_parse.specs.declared.halt.Halt.{Halt}
-use Rattle.smv_parse.specs.declared.halt.Halt.TheVariants as halts
-use Rattle.smv_parse.specs.declared.token.Token.{Token}
-use Rattle.smv_parse.specs.Halts.{Halts}
-use Rattle.smv_parse.specs.Programs.{at_mark, token}
+use Rattle.smv_token.specs.declared.mark.Mark.TheVariants as marks
+use Rattle.smv_reading.specs.declared.halt.Halt.{Halt}
+use Rattle.smv_reading.specs.declared.halt.Halt.TheVariants as halts
+use Rattle.smv_token.specs.declared.token.Token.{Token}
+use Rattle.smv_reading.specs.Halts.{Halts}
+use Rattle.smv_grammar.specs.Programs.{at_mark, token}
 use Rattle.smv_parse.specs.ProgramSteps.{commas, many_at, prefixed}
-use Rattle.smv_parse.specs.Reading.{Stop, wrong, deep, ◌>>=◌, is_mark, option_at, with_it, without_it}
-use Rattle.smv_parse.specs.RuleReading.{Got, read}
-use Rattle.smv_parse.specs.Rules.{Sort, Gift, Rule, never, many, is_never}
+use Rattle.smv_reading.specs.Reading.{Stop, wrong, deep, ◌>>=◌, option_at, with_it, without_it}
+use Rattle.smv_grammar.specs.IsMark.{is_mark}
+use Rattle.smv_text_reading.specs.RuleReading.{Got, read}
+use Rattle.smv_grammar.specs.Rules.{Sort, Gift, Rule, never, many, is_never}
 use Rattle.smv_parse.proofs.RuleLoops.{added_to, more_read, none_read, prefixed_none, prefixed_one, read_less}
 use Rattle.smv_parse.proofs.RuleSteps.{chain, taken}
 

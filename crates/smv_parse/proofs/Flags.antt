@@ -1,20 +1,21 @@
 -- The flags of tokens are those of what is left of them.
 use Rattle.std.proofs.Common.{◌≡◌, ℕ, Bool, true, false, cond, List, [], ◌∷◌, length, Ok, Err, sym, ap, subst, inl, inr}
 use Rattle.smv_tree.specs.declared.place.Place.{Place}
-use Rattle.smv_parse.specs.declared.mark.Mark.{Mark}
-use Rattle.smv_parse.specs.declared.token.Token.{Token}
-use Rattle.smv_parse.specs.declared.token.Lexeme.{Lexeme}
-use Rattle.smv_parse.specs.declared.token.Lexeme.TheVariants as lexeme
-use Rattle.smv_parse.specs.FormulaReading.{Flagged}
+use Rattle.smv_token.specs.declared.mark.Mark.{Mark}
+use Rattle.smv_token.specs.declared.token.Token.{Token}
+use Rattle.smv_token.specs.declared.token.Lexeme.{Lexeme}
+use Rattle.smv_token.specs.declared.token.Lexeme.TheVariants as lexeme
+use Rattle.smv_text_reading.specs.FormulaReading.{Flagged}
 use Rattle.smv_parse.specs.ProgramSteps.{mark_at, named_at, named_in}
-use Rattle.smv_parse.specs.Reading.{wrong, is_mark, option_at, with_it, without_it}
-use Rattle.smv_parse.specs.RuleReading.{Got, read}
-use Rattle.smv_parse.specs.Rules.{Sort, Gift, Rule}
-use Rattle.smv_parse.proofs.FormulaRests.{flagged_rest}
-use Rattle.smv_parse.proofs.Pieces.{TellsOf}
-use Rattle.smv_parse.proofs.Rests.{Rest, rest_more, rest_same}
-use Rattle.smv_parse.proofs.RuleFronts.{follows_rest}
-use Rattle.smv_parse.proofs.RuleSound.{RuleTells, Told, told}
+use Rattle.smv_reading.specs.Reading.{wrong, option_at, with_it, without_it}
+use Rattle.smv_grammar.specs.IsMark.{is_mark}
+use Rattle.smv_text_reading.specs.RuleReading.{Got, read}
+use Rattle.smv_grammar.specs.Rules.{Sort, Gift, Rule}
+use Rattle.smv_text_reading.proofs.FormulaRests.{flagged_rest}
+use Rattle.smv_text_reading.proofs.Pieces.{TellsOf}
+use Rattle.smv_grammar.proofs.Rests.{Rest, rest_more, rest_same}
+use Rattle.smv_text_reading.proofs.RuleFronts.{follows_rest}
+use Rattle.smv_text_reading.proofs.RuleSound.{RuleTells, Told, told}
 
 one_behind : (t : Token) (ts : List Token) → Rest ts (t ∷ ts)
 one_behind t ts = rest_more ts ts t (rest_same ts)

@@ -2,20 +2,21 @@
 use Rattle.std.proofs.Common.{◌≡◌, ◌<◌, ◌++◌, ℕ, Bool, true, false, cond, List, [], ◌∷◌, length, Ok, refl, sym, ◌∙◌, ap}
 use Rattle.smv_tree.specs.declared.place.Place.{Place}
 use Rattle.smv_tree.specs.Models.{Body, Formal}
-use Rattle.smv_parse.specs.declared.halt.Halt.{Halt}
-use Rattle.smv_parse.specs.declared.mark.Mark.TheVariants as marks
-use Rattle.smv_parse.specs.declared.token.Token.{Token}
-use Rattle.smv_parse.specs.FormulaReading.{Flagged}
-use Rattle.smv_parse.specs.Halts.{Halts}
+use Rattle.smv_reading.specs.declared.halt.Halt.{Halt}
+use Rattle.smv_token.specs.declared.mark.Mark.TheVariants as marks
+use Rattle.smv_token.specs.declared.token.Token.{Token}
+use Rattle.smv_text_reading.specs.FormulaReading.{Flagged}
+use Rattle.smv_reading.specs.Halts.{Halts}
 use Rattle.smv_parse.specs.ModuleSteps.{module_at, module_begins, modules_at, the_module}
-use Rattle.smv_parse.specs.Programs.{at_mark, formals, name, sections, together, token}
+use Rattle.smv_grammar.specs.Programs.{at_mark, formals, name, sections, together, token}
 use Rattle.smv_parse.specs.ProgramSteps.{many_at, mark_at, named_at, prefixed}
 use Rattle.smv_parse.specs.SectionSteps.{sections_at, the_sections}
 use Rattle.smv_parse.specs.ShapeSteps.{all_formals_at}
-use Rattle.smv_parse.specs.Reading.{◌>>=◌, is_mark}
-use Rattle.smv_parse.specs.RuleReading.{Got, read}
-use Rattle.smv_parse.specs.Rules.{Rule, gives, is_never, never, next_or, a_body}
-use Rattle.smv_parse.specs.Texts.{modules_of, to_end}
+use Rattle.smv_reading.specs.Reading.{◌>>=◌}
+use Rattle.smv_grammar.specs.IsMark.{is_mark}
+use Rattle.smv_text_reading.specs.RuleReading.{Got, read}
+use Rattle.smv_grammar.specs.Rules.{Rule, gives, is_never, never, next_or, a_body}
+use Rattle.smv_text_reading.specs.TextReading.{modules_of, to_end}
 use Rattle.smv_parse.proofs.Flags.{rule_flags}
 use Rattle.smv_parse.proofs.RuleLoops.{begins, many_done, many_goes_on, many_halted, one_less}
 use Rattle.smv_parse.proofs.RuleSteps.{bind_same, chain, mark_step, name_step}

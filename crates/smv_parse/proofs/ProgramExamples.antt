@@ -9,20 +9,22 @@ use Rattle.smv_tree.specs.declared.value.Ty.TheVariants as ty
 use Rattle.smv_tree.specs.declared.value.Value.TheVariants as value
 use Rattle.smv_tree.specs.Models.{Body, Part, always, assign, atom, constraint, define, instance, plain, property, variable}
 use Rattle.smv_tree.specs.Trees.{Tree, name, number, truth}
-use Rattle.smv_parse.specs.declared.fault.ParseFault.TheVariants as faults
-use Rattle.smv_parse.specs.Formulas.{group, holds_temporal}
-use Rattle.smv_parse.specs.FormulaReading.{formula_at, formula_within, operand_at, operators_at}
-use Rattle.smv_parse.specs.Marks.{symbol_at, symbols, text, word_of, words}
-use Rattle.smv_parse.specs.LeftOut.{left_out}
-use Rattle.smv_parse.specs.LeftOut.{text as left_out_text, words as left_out_words}
-use Rattle.smv_parse.specs.Numbers.{word_head}
-use Rattle.smv_parse.specs.Reading.{at, dots_at, more, opened, read_form, reader, same_mark}
-use Rattle.smv_parse.specs.RuleReading.{all_of, read, read_piece}
-use Rattle.smv_parse.specs.Texts.{ExplainsProgram, SpellsProgram, modules_of}
-use Rattle.smv_parse.specs.Tokens.{digit_piece, number_at, piece_at, run_kind, token_of, tokens_from}
-use Rattle.smv_parse.specs.Verdicts.{judged_by}
-use Rattle.smv_parse.proofs.Judging.{found_law, refused_law}
-use Rattle.smv_parse.proofs.TextVerdicts.{program_decides}
+use Rattle.smv_grammar.specs.declared.fault.ParseFault.TheVariants as faults
+use Rattle.smv_grammar.specs.Formulas.{group, holds_temporal}
+use Rattle.smv_text_reading.specs.FormulaReading.{formula_at, formula_within, operand_at, operators_at}
+use Rattle.smv_token.specs.Marks.{symbol_at, symbols, text, word_of, words}
+use Rattle.smv_token.specs.LeftOut.{left_out}
+use Rattle.smv_token.specs.LeftOut.{text as left_out_text, words as left_out_words}
+use Rattle.smv_token.specs.Numbers.{word_head}
+use Rattle.smv_reading.specs.Reading.{at, dots_at, more, opened, read_form, reader}
+use Rattle.smv_grammar.specs.IsMark.{same_mark}
+use Rattle.smv_text_reading.specs.RuleReading.{all_of, read, read_piece}
+use Rattle.smv_grammar.specs.Texts.{ExplainsProgram, SpellsProgram}
+use Rattle.smv_text_reading.specs.TextReading.{modules_of}
+use Rattle.smv_token.specs.Tokens.{digit_piece, number_at, piece_at, run_kind, token_of, tokens_from}
+use Rattle.smv_text_reading.specs.Verdicts.{judged_by}
+use Rattle.smv_text_reading.proofs.Judging.{found_law, refused_law}
+use Rattle.smv_text_reading.proofs.TextVerdicts.{program_decides}
 
 -- a column of the first line
 abbrev pub col : ℕ → Place

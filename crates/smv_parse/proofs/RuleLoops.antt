@@ -1,16 +1,16 @@
 -- As many of a sort as there are, read one after the other.
 use Rattle.std.proofs.Common.{◌≡◌, ◌<◌, ◌≤◌, ℕ, zero, suc, Bool, true, false, cond, List, [], ◌∷◌, ◌++◌, length, Ok, Err, refl, sym, ◌∙◌, ap, subst, append_assoc, append-nil, arith}
-use Rattle.smv_parse.specs.declared.halt.Halt.{Halt}
-use Rattle.smv_parse.specs.declared.halt.Halt.TheVariants as halts
-use Rattle.smv_parse.specs.declared.token.Token.{Token}
-use Rattle.smv_parse.specs.Halts.{Halts}
-use Rattle.smv_parse.specs.Programs.{token}
+use Rattle.smv_reading.specs.declared.halt.Halt.{Halt}
+use Rattle.smv_reading.specs.declared.halt.Halt.TheVariants as halts
+use Rattle.smv_token.specs.declared.token.Token.{Token}
+use Rattle.smv_reading.specs.Halts.{Halts}
+use Rattle.smv_grammar.specs.Programs.{token}
 use Rattle.smv_parse.specs.ProgramSteps.{many_at, prefixed}
-use Rattle.smv_parse.specs.Reading.{Stop, wrong, deep, ◌>>=◌}
-use Rattle.smv_parse.specs.RuleReading.{Got, all_of, read}
-use Rattle.smv_parse.specs.Rules.{Sort, Gift, Rule, is_never}
-use Rattle.smv_parse.proofs.Pieces.{ReachedTo}
-use Rattle.smv_parse.proofs.RuleReach.{rule_reached}
+use Rattle.smv_reading.specs.Reading.{Stop, wrong, deep, ◌>>=◌}
+use Rattle.smv_text_reading.specs.RuleReading.{Got, all_of, read}
+use Rattle.smv_grammar.specs.Rules.{Sort, Gift, Rule, is_never}
+use Rattle.smv_text_reading.proofs.Pieces.{ReachedTo}
+use Rattle.smv_text_reading.proofs.RuleReach.{rule_reached}
 use Rattle.smv_parse.proofs.RuleSteps.{taken}
 
 -- the reading of as many as there are

@@ -3,16 +3,17 @@ use Rattle.std.proofs.Common.{◌≡◌, ℕ, suc, Bool, true, false, cond, List
 use Rattle.smv_tree.specs.declared.place.Place.{Place}
 use Rattle.smv_tree.specs.declared.program.Section.{Section}
 use Rattle.smv_tree.specs.Models.{Part, define, constraint}
-use Rattle.smv_parse.specs.declared.mark.Mark.{Mark}
-use Rattle.smv_parse.specs.declared.mark.Mark.TheVariants as marks
-use Rattle.smv_parse.specs.declared.token.Token.{Token}
-use Rattle.smv_parse.specs.declared.token.Lexeme.{Lexeme}
-use Rattle.smv_parse.specs.declared.token.Lexeme.TheVariants as lexeme
-use Rattle.smv_parse.specs.Programs.{at_mark, constrained, definition, name, name_in, token}
+use Rattle.smv_token.specs.declared.mark.Mark.{Mark}
+use Rattle.smv_token.specs.declared.mark.Mark.TheVariants as marks
+use Rattle.smv_token.specs.declared.token.Token.{Token}
+use Rattle.smv_token.specs.declared.token.Lexeme.{Lexeme}
+use Rattle.smv_token.specs.declared.token.Lexeme.TheVariants as lexeme
+use Rattle.smv_grammar.specs.Programs.{at_mark, constrained, definition, name, name_in, token}
 use Rattle.smv_parse.specs.ProgramSteps.{constrained_at, definition_at, mark_at, named_at, named_in, past_semicolon}
-use Rattle.smv_parse.specs.Reading.{wrong, ◌>>=◌, is_mark}
-use Rattle.smv_parse.specs.RuleReading.{Got, read, read_piece}
-use Rattle.smv_parse.specs.Rules.{Sort, Rule, expression, never, gives, next_or, part, is_never, a_part, some_parts}
+use Rattle.smv_reading.specs.Reading.{wrong, ◌>>=◌}
+use Rattle.smv_grammar.specs.IsMark.{is_mark}
+use Rattle.smv_text_reading.specs.RuleReading.{Got, read, read_piece}
+use Rattle.smv_grammar.specs.Rules.{Sort, Rule, expression, never, gives, next_or, part, is_never, a_part, some_parts}
 
 pub bind_same : {A B : Type 0} (r : Got A) (f g : A × List Token → Got B) → ((x : A × List Token) → f x ≡ g x) → (r >>= f) ≡ (r >>= g)
 bind_same (Ok x) f g h = h x

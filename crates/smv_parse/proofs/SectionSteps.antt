@@ -6,23 +6,23 @@ use Rattle.smv_tree.specs.declared.program.Kind.TheVariants as kind
 use Rattle.smv_tree.specs.declared.program.Moment.TheVariants as moment
 use Rattle.smv_tree.specs.declared.program.Section.TheVariants as section
 use Rattle.smv_tree.specs.Models.{Part, property, variable}
-use Rattle.smv_parse.specs.declared.halt.Halt.{Halt}
-use Rattle.smv_parse.specs.declared.halt.Halt.TheVariants as halts
-use Rattle.smv_parse.specs.declared.mark.Mark.{Mark}
-use Rattle.smv_parse.specs.declared.mark.Mark.TheVariants as marks
+use Rattle.smv_reading.specs.declared.halt.Halt.{Halt}
+use Rattle.smv_reading.specs.declared.halt.Halt.TheVariants as halts
+use Rattle.smv_token.specs.declared.mark.Mark.{Mark}
+use Rattle.smv_token.specs.declared.mark.Mark.TheVariants as marks
 use Rattle.smv_parse.specs.declared.section.Holding.{Holding}
 use Rattle.smv_parse.specs.declared.section.Holding.TheVariants as holding
-use Rattle.smv_parse.specs.declared.token.Token.{Token}
-use Rattle.smv_parse.specs.declared.token.Lexeme.{Lexeme}
-use Rattle.smv_parse.specs.declared.token.Lexeme.TheVariants as lexeme
-use Rattle.smv_parse.specs.FormulaReading.{Flagged}
-use Rattle.smv_parse.specs.Halts.{Halts}
-use Rattle.smv_parse.specs.Programs.{a_property, assigned, assignment, assignment_by, at_shape, declaration, definition, mark, name_in, parts, section_by, section_in as section_rule, specified, specified_by_name, together, token}
+use Rattle.smv_token.specs.declared.token.Token.{Token}
+use Rattle.smv_token.specs.declared.token.Lexeme.{Lexeme}
+use Rattle.smv_token.specs.declared.token.Lexeme.TheVariants as lexeme
+use Rattle.smv_text_reading.specs.FormulaReading.{Flagged}
+use Rattle.smv_reading.specs.Halts.{Halts}
+use Rattle.smv_grammar.specs.Programs.{a_property, assigned, assignment, assignment_by, at_shape, declaration, definition, mark, name_in, parts, section_by, section_in as section_rule, specified, specified_by_name, together, token}
 use Rattle.smv_parse.specs.ProgramSteps.{many_at, mark_at, named_at, prefixed}
 use Rattle.smv_parse.specs.SectionSteps.{assigns, begins_section, begins_with, is_section, part_at, part_begins, part_rule, parts_at, property_at, property_by, section_at, section_begins, section_behind, section_in, sections_at, specified_at, specified_by_name_at, the_sections}
-use Rattle.smv_parse.specs.Reading.{Stop, wrong, deep, ◌>>=◌, option_at}
-use Rattle.smv_parse.specs.RuleReading.{Got, read, read_piece}
-use Rattle.smv_parse.specs.Rules.{Rule, formula, gives, never, is_never, a_part}
+use Rattle.smv_reading.specs.Reading.{Stop, wrong, deep, ◌>>=◌, option_at}
+use Rattle.smv_text_reading.specs.RuleReading.{Got, read, read_piece}
+use Rattle.smv_grammar.specs.Rules.{Rule, formula, gives, never, is_never, a_part}
 use Rattle.smv_parse.proofs.Flags.{rule_flags}
 use Rattle.smv_parse.proofs.RuleLoops.{added_to, begins, many_done, many_goes_on, many_halted, more_read, none_read, one_less}
 use Rattle.smv_parse.proofs.RuleSteps.{bind_same, constrained_step, definition_step, mark_step, name_step, semicolon_step}

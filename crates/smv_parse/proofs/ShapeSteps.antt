@@ -6,18 +6,19 @@ use Rattle.smv_tree.specs.declared.program.Moment.{Moment}
 use Rattle.smv_tree.specs.declared.program.Moment.TheVariants as moment
 use Rattle.smv_tree.specs.Trees.{Tree}
 use Rattle.smv_tree.specs.Models.{Formal, Shape, plain, instance, variable, assign}
-use Rattle.smv_parse.specs.declared.mark.Mark.{Mark}
-use Rattle.smv_parse.specs.declared.mark.Mark.TheVariants as marks
-use Rattle.smv_parse.specs.declared.token.Token.{Token}
-use Rattle.smv_parse.specs.declared.token.Lexeme.{Lexeme}
-use Rattle.smv_parse.specs.declared.token.Lexeme.TheVariants as lexeme
-use Rattle.smv_parse.specs.Programs.{actuals, assigned, assigned_in, assignment, assignment_by, at_mark, at_shape, at_type, declaration, expr, formal, formals, instantiated, mark, more_of, name, token}
+use Rattle.smv_token.specs.declared.mark.Mark.{Mark}
+use Rattle.smv_token.specs.declared.mark.Mark.TheVariants as marks
+use Rattle.smv_token.specs.declared.token.Token.{Token}
+use Rattle.smv_token.specs.declared.token.Lexeme.{Lexeme}
+use Rattle.smv_token.specs.declared.token.Lexeme.TheVariants as lexeme
+use Rattle.smv_grammar.specs.Programs.{actuals, assigned, assigned_in, assignment, assignment_by, at_mark, at_shape, at_type, declaration, expr, formal, formals, instantiated, mark, more_of, name, token}
 use Rattle.smv_parse.specs.ProgramSteps.{commas, mark_at, named_at}
 use Rattle.smv_parse.specs.ShapeSteps.{actuals_at, all_actuals_at, all_formals_at, assigned_at, assigned_in_at, assignment_at, assignment_behind, assignment_in, bracketed_by, closed_by, declaration_at, formal_at, formals_at, instance_behind, one_expr, one_formal, plain_at, shape_at, shape_in}
 use Rattle.smv_parse.specs.TypeSteps.{type_at}
-use Rattle.smv_parse.specs.Reading.{wrong, ◌>>=◌, is_mark, option_at, with_it, without_it}
-use Rattle.smv_parse.specs.RuleReading.{Got, read, read_piece}
-use Rattle.smv_parse.specs.Rules.{Gift, Sort, Rule, expression, gives, never, next_or, is_never, a_body, a_formal, a_part, a_tree}
+use Rattle.smv_reading.specs.Reading.{wrong, ◌>>=◌, option_at, with_it, without_it}
+use Rattle.smv_grammar.specs.IsMark.{is_mark}
+use Rattle.smv_text_reading.specs.RuleReading.{Got, read, read_piece}
+use Rattle.smv_grammar.specs.Rules.{Gift, Sort, Rule, expression, gives, never, next_or, is_never, a_body, a_formal, a_part, a_tree}
 use Rattle.smv_parse.proofs.CommaLists.{comma_step}
 use Rattle.smv_parse.proofs.RuleSteps.{bind_same, chain, mark_step, name_step, taken}
 use Rattle.smv_parse.proofs.TypeSteps.{bind_ok, type_step}

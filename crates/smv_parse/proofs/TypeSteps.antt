@@ -5,18 +5,19 @@ use Rattle.smv_tree.specs.declared.value.Ty.TheVariants as ty
 use Rattle.smv_tree.specs.declared.value.Value.{Value}
 use Rattle.smv_tree.specs.declared.value.Value.TheVariants as value
 use Rattle.smv_tree.specs.Models.{Shape, plain}
-use Rattle.smv_parse.specs.declared.mark.Mark.{Mark}
-use Rattle.smv_parse.specs.declared.mark.Mark.TheVariants as marks
-use Rattle.smv_parse.specs.declared.token.Token.{Token}
-use Rattle.smv_parse.specs.declared.token.Lexeme.{Lexeme}
-use Rattle.smv_parse.specs.declared.token.Lexeme.TheVariants as lexeme
-use Rattle.smv_parse.specs.Forms.{integer}
-use Rattle.smv_parse.specs.Programs.{an_elem, an_integer, at_integer_in, at_type, at_value_in, enumeration, interval, mark, more_of, number, number_in, sized, type_by, type_in, width}
+use Rattle.smv_token.specs.declared.mark.Mark.{Mark}
+use Rattle.smv_token.specs.declared.mark.Mark.TheVariants as marks
+use Rattle.smv_token.specs.declared.token.Token.{Token}
+use Rattle.smv_token.specs.declared.token.Lexeme.{Lexeme}
+use Rattle.smv_token.specs.declared.token.Lexeme.TheVariants as lexeme
+use Rattle.smv_grammar.specs.Forms.{integer}
+use Rattle.smv_grammar.specs.Programs.{an_elem, an_integer, at_integer_in, at_type, at_value_in, enumeration, interval, mark, more_of, number, number_in, sized, type_by, type_in, width}
 use Rattle.smv_parse.specs.ProgramSteps.{commas, mark_at}
 use Rattle.smv_parse.specs.TypeSteps.{below_zero_at, elem_at, elem_in, enumeration_at, integer_at, integer_in, interval_at, one_elem, sized_at, type_at, type_behind, type_in as type_seen, word_at}
-use Rattle.smv_parse.specs.Reading.{wrong, ◌>>=◌, is_mark, number_at, number_in as number_seen}
-use Rattle.smv_parse.specs.RuleReading.{Got, read}
-use Rattle.smv_parse.specs.Rules.{Gift, Sort, Rule, gives, never, is_never, a_value}
+use Rattle.smv_reading.specs.Reading.{wrong, ◌>>=◌, number_at, number_in as number_seen}
+use Rattle.smv_grammar.specs.IsMark.{is_mark}
+use Rattle.smv_text_reading.specs.RuleReading.{Got, read}
+use Rattle.smv_grammar.specs.Rules.{Gift, Sort, Rule, gives, never, is_never, a_value}
 use Rattle.smv_parse.proofs.CommaLists.{comma_step}
 use Rattle.smv_parse.proofs.RuleSteps.{chain, mark_step, taken}
 

@@ -1,15 +1,16 @@
 -- How modules are read, step by step.
 use Rattle.std.specs.Prelude.{Bool, false, List, [], ◌∷◌, Ok}
 use Rattle.smv_tree.specs.Models.{Body}
-use Rattle.smv_parse.specs.declared.mark.Mark.TheVariants as marks
-use Rattle.smv_parse.specs.declared.token.Token.{Token}
-use Rattle.smv_parse.specs.Programs.{a_module}
+use Rattle.smv_token.specs.declared.mark.Mark.TheVariants as marks
+use Rattle.smv_token.specs.declared.token.Token.{Token}
+use Rattle.smv_grammar.specs.Programs.{a_module}
 use Rattle.smv_parse.specs.ProgramSteps.{many_at, mark_at, named_at}
 use Rattle.smv_parse.specs.SectionSteps.{sections_at}
 use Rattle.smv_parse.specs.ShapeSteps.{all_formals_at}
-use Rattle.smv_parse.specs.Reading.{◌>>=◌, is_mark}
-use Rattle.smv_parse.specs.RuleReading.{Got}
-use Rattle.smv_parse.specs.Rules.{Rule, a_body}
+use Rattle.smv_reading.specs.Reading.{◌>>=◌}
+use Rattle.smv_grammar.specs.IsMark.{is_mark}
+use Rattle.smv_text_reading.specs.RuleReading.{Got}
+use Rattle.smv_grammar.specs.Rules.{Rule, a_body}
 
 -- a module
 unfoldable pub module_at : List Token → Got Body

@@ -3,15 +3,16 @@ use Rattle.std.specs.Prelude.{ℕ, suc, List, [], ◌∷◌, ◌++◌, Ok, Err, 
 use Rattle.smv_tree.specs.declared.place.Place.{Place}
 use Rattle.smv_tree.specs.declared.program.Section.{Section}
 use Rattle.smv_tree.specs.Models.{Part, define, constraint}
-use Rattle.smv_parse.specs.declared.mark.Mark.{Mark}
-use Rattle.smv_parse.specs.declared.mark.Mark.TheVariants as marks
-use Rattle.smv_parse.specs.declared.token.Token.{Token}
-use Rattle.smv_parse.specs.declared.token.Lexeme.{Lexeme}
-use Rattle.smv_parse.specs.declared.token.Lexeme.TheVariants as lexeme
-use Rattle.smv_parse.specs.Reading.{wrong, ◌>>=◌, is_mark}
-use Rattle.smv_parse.specs.Programs.{at_mark}
-use Rattle.smv_parse.specs.RuleReading.{Got, all_of, read, read_piece}
-use Rattle.smv_parse.specs.Rules.{expression, Gift, Rule, Sort}
+use Rattle.smv_token.specs.declared.mark.Mark.{Mark}
+use Rattle.smv_token.specs.declared.mark.Mark.TheVariants as marks
+use Rattle.smv_token.specs.declared.token.Token.{Token}
+use Rattle.smv_token.specs.declared.token.Lexeme.{Lexeme}
+use Rattle.smv_token.specs.declared.token.Lexeme.TheVariants as lexeme
+use Rattle.smv_reading.specs.Reading.{wrong, ◌>>=◌}
+use Rattle.smv_grammar.specs.IsMark.{is_mark}
+use Rattle.smv_grammar.specs.Programs.{at_mark}
+use Rattle.smv_text_reading.specs.RuleReading.{Got, all_of, read, read_piece}
+use Rattle.smv_grammar.specs.Rules.{expression, Gift, Rule, Sort}
 
 -- as many of a sort as there are, each by the token with which it begins
 unfoldable pub many_at : {z : Sort} → (Token → Rule z) → List Token → Got (List (Gift z))

@@ -4,19 +4,19 @@ use Rattle.smv_tree.specs.declared.place.Place.{Place}
 use Rattle.smv_tree.specs.declared.program.Kind.TheVariants as kind
 use Rattle.smv_tree.specs.declared.program.Section.TheVariants as section
 use Rattle.smv_tree.specs.Models.{Part, property}
-use Rattle.smv_parse.specs.declared.mark.Mark.{Mark}
-use Rattle.smv_parse.specs.declared.mark.Mark.TheVariants as marks
+use Rattle.smv_token.specs.declared.mark.Mark.{Mark}
+use Rattle.smv_token.specs.declared.mark.Mark.TheVariants as marks
 use Rattle.smv_parse.specs.declared.section.Holding.{Holding}
 use Rattle.smv_parse.specs.declared.section.Holding.TheVariants as holding
-use Rattle.smv_parse.specs.declared.token.Token.{Token}
-use Rattle.smv_parse.specs.declared.token.Lexeme.{Lexeme}
-use Rattle.smv_parse.specs.declared.token.Lexeme.TheVariants as lexeme
-use Rattle.smv_parse.specs.Programs.{a_section, assignment, declaration, definition, together}
+use Rattle.smv_token.specs.declared.token.Token.{Token}
+use Rattle.smv_token.specs.declared.token.Lexeme.{Lexeme}
+use Rattle.smv_token.specs.declared.token.Lexeme.TheVariants as lexeme
+use Rattle.smv_grammar.specs.Programs.{a_section, assignment, declaration, definition, together}
 use Rattle.smv_parse.specs.ProgramSteps.{constrained_at, definition_at, many_at, mark_at, named_at, past_semicolon}
 use Rattle.smv_parse.specs.ShapeSteps.{assignment_at, declaration_at}
-use Rattle.smv_parse.specs.Reading.{wrong, ◌>>=◌, option_at}
-use Rattle.smv_parse.specs.RuleReading.{Got, read_piece}
-use Rattle.smv_parse.specs.Rules.{Rule, formula, a_part, some_parts}
+use Rattle.smv_reading.specs.Reading.{wrong, ◌>>=◌, option_at}
+use Rattle.smv_text_reading.specs.RuleReading.{Got, read_piece}
+use Rattle.smv_grammar.specs.Rules.{Rule, formula, a_part, some_parts}
 
 -- one of the parts that a section holds
 unfoldable pub part_rule : Holding → Token → Rule a_part

@@ -6,17 +6,17 @@ use Rattle.smv_tree.specs.declared.program.Moment.{Moment}
 use Rattle.smv_tree.specs.declared.program.Moment.TheVariants as moment
 use Rattle.smv_tree.specs.Trees.{Tree}
 use Rattle.smv_tree.specs.Models.{Formal, Part, Shape, plain, instance, variable, assign}
-use Rattle.smv_parse.specs.declared.mark.Mark.{Mark}
-use Rattle.smv_parse.specs.declared.mark.Mark.TheVariants as marks
-use Rattle.smv_parse.specs.declared.token.Token.{Token}
-use Rattle.smv_parse.specs.declared.token.Lexeme.{Lexeme}
-use Rattle.smv_parse.specs.declared.token.Lexeme.TheVariants as lexeme
-use Rattle.smv_parse.specs.Programs.{expr, formal, name}
+use Rattle.smv_token.specs.declared.mark.Mark.{Mark}
+use Rattle.smv_token.specs.declared.mark.Mark.TheVariants as marks
+use Rattle.smv_token.specs.declared.token.Token.{Token}
+use Rattle.smv_token.specs.declared.token.Lexeme.{Lexeme}
+use Rattle.smv_token.specs.declared.token.Lexeme.TheVariants as lexeme
+use Rattle.smv_grammar.specs.Programs.{expr, formal, name}
 use Rattle.smv_parse.specs.ProgramSteps.{commas, mark_at, named_at}
 use Rattle.smv_parse.specs.TypeSteps.{type_at}
-use Rattle.smv_parse.specs.Reading.{wrong, ◌>>=◌, option_at}
-use Rattle.smv_parse.specs.RuleReading.{Got, read_piece}
-use Rattle.smv_parse.specs.Rules.{Rule, expression, gives, a_formal, a_tree}
+use Rattle.smv_reading.specs.Reading.{wrong, ◌>>=◌, option_at}
+use Rattle.smv_text_reading.specs.RuleReading.{Got, read_piece}
+use Rattle.smv_grammar.specs.Rules.{Rule, expression, gives, a_formal, a_tree}
 
 unfoldable pub one_expr : Rule a_tree
 one_expr = expr (λ y. gives a_tree y)

@@ -5,17 +5,18 @@ use Rattle.smv_tree.specs.declared.value.Ty.{Ty}
 use Rattle.smv_tree.specs.declared.value.Ty.TheVariants as ty
 use Rattle.smv_tree.specs.declared.value.Value.{Value}
 use Rattle.smv_tree.specs.declared.value.Value.TheVariants as value
-use Rattle.smv_parse.specs.declared.mark.Mark.{Mark}
-use Rattle.smv_parse.specs.declared.mark.Mark.TheVariants as marks
-use Rattle.smv_parse.specs.declared.token.Token.{Token}
-use Rattle.smv_parse.specs.declared.token.Lexeme.{Lexeme}
-use Rattle.smv_parse.specs.declared.token.Lexeme.TheVariants as lexeme
-use Rattle.smv_parse.specs.Forms.{integer}
-use Rattle.smv_parse.specs.Programs.{an_elem, width}
+use Rattle.smv_token.specs.declared.mark.Mark.{Mark}
+use Rattle.smv_token.specs.declared.mark.Mark.TheVariants as marks
+use Rattle.smv_token.specs.declared.token.Token.{Token}
+use Rattle.smv_token.specs.declared.token.Lexeme.{Lexeme}
+use Rattle.smv_token.specs.declared.token.Lexeme.TheVariants as lexeme
+use Rattle.smv_grammar.specs.Forms.{integer}
+use Rattle.smv_grammar.specs.Programs.{an_elem, width}
 use Rattle.smv_parse.specs.ProgramSteps.{commas, mark_at}
-use Rattle.smv_parse.specs.Reading.{wrong, ◌>>=◌, is_mark, number_at}
-use Rattle.smv_parse.specs.RuleReading.{Got}
-use Rattle.smv_parse.specs.Rules.{Rule, gives, a_value}
+use Rattle.smv_reading.specs.Reading.{wrong, ◌>>=◌, number_at}
+use Rattle.smv_grammar.specs.IsMark.{is_mark}
+use Rattle.smv_text_reading.specs.RuleReading.{Got}
+use Rattle.smv_grammar.specs.Rules.{Rule, gives, a_value}
 
 -- int
 abbrev pub integer_in : Lexeme → List Token → Got ℤ

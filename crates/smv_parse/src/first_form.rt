@@ -1,9 +1,8 @@
 ghost use Rattle.std.specs.Prelude.{◌≡◌, IfOk};
-ghost use Rattle.smv_parse.specs.Tokens.{scanned};
+ghost use Rattle.smv_token.specs.Tokens.{scanned};
 ghost use Rattle.smv_parse.specs.FirstForm.{behind, closes, first_from, free, is_first, opens};
 
-use crate::mark::Mark;
-use crate::token::{Lexeme, Token, scan};
+use smv_token::{Lexeme, Mark, Token, scan};
 use std::alloc::{AllocError, Global};
 
 /// What may come next: anything, or a part of `next` around a name.

@@ -1,20 +1,20 @@
 ghost use Rattle.std.specs.Prelude.{IfErr, IfOk, Ok, Err};
 ghost use Rattle.smv_tree.specs.Models.{Claim, formula_claim};
-ghost use Rattle.smv_parse.specs.Halts.{Reads};
-ghost use Rattle.smv_parse.specs.Texts.{ExplainsFormula, SpellsFormulaText, formula_of};
-ghost use Rattle.smv_parse.specs.Verdicts.{Answers, Unless, judged_by, verdict};
+ghost use Rattle.smv_reading.specs.Halts.{Reads};
+ghost use Rattle.smv_grammar.specs.Texts.{ExplainsFormula, SpellsFormulaText};
+ghost use Rattle.smv_text_reading.specs.TextReading.{formula_of};
+ghost use Rattle.smv_text_reading.specs.Verdicts.{Answers, Unless, judged_by, verdict};
 
-use crate::fault::ParseFault;
-use crate::forms::{DEEPEST, OUTERMOST};
-use crate::formula::{at, group_flags};
-use crate::halt::Halt;
 use crate::parse::{fault_of, halt_fault};
-use crate::token::{ScannedText, Token, scan};
+use smv_expr::formula::{at, group_flags};
+use smv_grammar::{DEEPEST, OUTERMOST, ParseFault};
+use smv_reading::Halt;
+use smv_token::{ScannedText, Token, scan};
 use smv_tree::Formula;
 use std::alloc::{AllocError, Global};
 
 /// The formula of all tokens.
-#[tactic(auto, using(crate::proofs::FormulaRests::all_flagged), unfolding(crate::specs::Texts::formula_of, crate::specs::RuleReading::read_piece))]
+#[tactic(auto, using(smv_text_reading::proofs::FormulaRests::all_flagged), unfolding(smv_text_reading::specs::TextReading::formula_of, smv_text_reading::specs::RuleReading::read_piece))]
 fn formula(alloc: Global, tokens: &[Token]) -> Result<Formula, Halt>
     ensures { Reads formula_claim result (formula_of tokens.now) }
 {
@@ -27,7 +27,7 @@ fn formula(alloc: Global, tokens: &[Token]) -> Result<Formula, Halt>
 }
 
 /// The verdict on the tokens of a text.
-#[tactic(auto, using(crate::proofs::TextVerdicts::formula_within, crate::proofs::TextVerdicts::formula_deep))]
+#[tactic(auto, using(smv_text_reading::proofs::TextVerdicts::formula_within, smv_text_reading::proofs::TextVerdicts::formula_deep))]
 fn judge_formula(alloc: Global, text: &ScannedText) -> Result<Formula, ParseFault>
     ensures { Answers formula_claim result (verdict text.now.tokens.items text.now.stop text.now.end (formula_of text.now.tokens.items)) }
 {

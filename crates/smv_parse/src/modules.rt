@@ -1,15 +1,14 @@
 ghost use Rattle.std.specs.Prelude.{◌≡◌, ◌∷◌, ◌++◌, [], IfErr, OnOk, map};
 ghost use Rattle.smv_tree.specs.Models.{body_of};
-ghost use Rattle.smv_parse.specs.FormulaReading.{Flagged};
-ghost use Rattle.smv_parse.specs.Halts.{IsMemory, Reads};
+ghost use Rattle.smv_text_reading.specs.FormulaReading.{Flagged};
+ghost use Rattle.smv_reading.specs.Halts.{IsMemory, Reads};
 ghost use Rattle.smv_parse.specs.ModuleSteps.{module_at, module_begins, modules_at};
 
-use crate::halt::Halt;
-use crate::mark::Mark;
 use crate::parameters::params;
 use crate::program_front::{mark_at, named_at};
 use crate::section::sections;
-use crate::token::{Lexeme, Token};
+use smv_reading::Halt;
+use smv_token::{Lexeme, Mark, Token};
 use smv_tree::{Module, Modules};
 use std::alloc::Global;
 
@@ -37,7 +36,7 @@ fn module_at<'a>(
 }
 
 /// Whether there is one more module.
-#[tactic(auto, unfolding(crate::specs::ModuleSteps::module_begins, crate::specs::Reading::same_mark))]
+#[tactic(auto, unfolding(crate::specs::ModuleSteps::module_begins, smv_grammar::specs::IsMark::same_mark))]
 fn module_begins(tokens: &[Token]) -> bool
     ensures { result ≡ module_begins tokens.now }
 {

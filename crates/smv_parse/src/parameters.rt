@@ -1,14 +1,13 @@
 ghost use Rattle.std.specs.Prelude.{◌≡◌, ◌∷◌, ◌++◌, [], IfErr, OnOk, map};
 ghost use Rattle.smv_tree.specs.Models.{formal_of};
-ghost use Rattle.smv_parse.specs.Halts.{IsMemory, Reads};
+ghost use Rattle.smv_reading.specs.Halts.{IsMemory, Reads};
 ghost use Rattle.smv_parse.specs.ProgramSteps.{commas};
 ghost use Rattle.smv_parse.specs.ShapeSteps.{all_formals_at, formal_at, formals_at, one_formal};
 
-use crate::front::option_at;
-use crate::halt::Halt;
-use crate::mark::Mark;
 use crate::program_front::{mark_at, named_at};
-use crate::token::Token;
+use smv_expr::front::option_at;
+use smv_reading::Halt;
+use smv_token::{Mark, Token};
 use smv_tree::{Param, Params};
 use std::alloc::Global;
 

@@ -1,23 +1,20 @@
-ghost use Rattle.std.specs.Prelude.{◌≡◌, ◌<◌, IfErr, IfOk, List, Ok, length, ℕ};
-ghost use Rattle.smv_parse.specs.Alike.{Reparsed, ReparsedFormula};
-ghost use Rattle.smv_tree.specs.Models.{Body, Claim};
+ghost use Rattle.std.specs.Prelude.{◌≡◌, ◌<◌, IfErr, IfOk, Ok, length};
 ghost use Rattle.smv_tree.specs.Trees.{Tree, expr_tree};
-ghost use Rattle.smv_parse.specs.Faults.{fault_of, left_out_fault, place_at};
-ghost use Rattle.smv_parse.specs.Halts.{Reads};
-ghost use Rattle.smv_parse.specs.Texts.{ExplainsExpr, SpellsExpr, SpellsFormulaText, SpellsProgram, expression_of};
-ghost use Rattle.smv_parse.specs.Verdicts.{Answers, HaltFault, StopsWithin, Unless, end_fault, judged_by, verdict};
+ghost use Rattle.smv_grammar.specs.Faults.{fault_of, left_out_fault, place_at};
+ghost use Rattle.smv_reading.specs.Halts.{Reads};
+ghost use Rattle.smv_grammar.specs.Texts.{ExplainsExpr, SpellsExpr};
+ghost use Rattle.smv_text_reading.specs.TextReading.{expression_of};
+ghost use Rattle.smv_text_reading.specs.Verdicts.{Answers, HaltFault, StopsWithin, Unless, end_fault, judged_by, verdict};
 
-use crate::expression::at;
-use crate::fault::ParseFault;
-use crate::forms::{DEEPEST, LOOSEST};
-use crate::halt::Halt;
-use crate::left_out::LeftOut;
-use crate::token::{Flaw, ScannedText, Token, scan};
+use smv_expr::expression::at;
+use smv_grammar::{DEEPEST, LOOSEST, ParseFault};
+use smv_reading::Halt;
+use smv_token::{Flaw, LeftOut, ScannedText, Token, scan};
 use smv_tree::{Expr, Name, Place};
 use std::alloc::{AllocError, Global};
 
 /// The expression of all tokens.
-#[tactic(auto, unfolding(crate::specs::Texts::expression_of, crate::specs::RuleReading::read_piece))]
+#[tactic(auto, unfolding(smv_text_reading::specs::TextReading::expression_of, smv_text_reading::specs::RuleReading::read_piece))]
 fn expression(alloc: Global, tokens: &[Token]) -> Result<Expr, Halt>
     ensures { Reads expr_tree result (expression_of tokens.now) }
 {
@@ -29,7 +26,7 @@ fn expression(alloc: Global, tokens: &[Token]) -> Result<Expr, Halt>
 }
 
 /// The fault that a left-out word is.
-#[tactic(auto, using(crate::proofs::DeepFronts::text_within))]
+#[tactic(auto, using(smv_reading::proofs::DeepFronts::text_within))]
 fn left_out_fault(alloc: Global, place: Place, word: LeftOut) -> ParseFault
     ensures { Unless result (result ≡ left_out_fault place word) }
 {
@@ -63,7 +60,7 @@ pub fn fault_of(alloc: Global, place: Place, flaw: Flaw) -> ParseFault
 }
 
 /// The place of a token by its number.
-#[tactic(auto, using(crate::proofs::DeepFronts::place_of))]
+#[tactic(auto, using(smv_reading::proofs::DeepFronts::place_of))]
 pub fn place_at(tokens: &[Token], index: usize) -> Place
     requires { index < length tokens.now }
     ensures { result ≡ place_at tokens.now index }
@@ -96,7 +93,7 @@ pub fn halt_fault(alloc: Global, text: &ScannedText, halt: Halt) -> ParseFault
 }
 
 /// The verdict on a text.
-#[tactic(auto, using(crate::proofs::TextVerdicts::expression_within, crate::proofs::TextVerdicts::expression_deep))]
+#[tactic(auto, using(smv_text_reading::proofs::TextVerdicts::expression_within, smv_text_reading::proofs::TextVerdicts::expression_deep))]
 fn judge(alloc: Global, text: &ScannedText) -> Result<Expr, ParseFault>
     ensures { Answers expr_tree result (verdict text.now.tokens.items text.now.stop text.now.end (expression_of text.now.tokens.items)) }
 {
@@ -135,17 +132,3 @@ pub fn parse_expr(alloc: Global, bytes: &[u8]) -> Result<Expr, ParseFault>
 {
     read_text(alloc, bytes)
 }
-
-/// A text spells at most one expression, at most one formula and at most one program.
-#[tactic(auto, using(crate::proofs::TextVerdicts::one_expression_law, crate::proofs::TextVerdicts::one_formula_law, crate::proofs::TextVerdicts::one_program_law))]
-pub fn one_spelling()
-    ensures expression { (bytes : List ℕ) (x y : Tree) → SpellsExpr bytes x → SpellsExpr bytes y → x ≡ y }
-    ensures formula { (bytes : List ℕ) (x y : Claim) → SpellsFormulaText bytes x → SpellsFormulaText bytes y → x ≡ y }
-    ensures program { (bytes : List ℕ) (ms ns : List Body) → SpellsProgram bytes ms → SpellsProgram bytes ns → ms ≡ ns }
-{}
-
-/// What is printed of an expression or a formula that a text spells spells it again, places aside.
-pub fn same_when_printed()
-    ensures expression { (bytes : List ℕ) (x : Tree) → SpellsExpr bytes x → Reparsed x }
-    ensures formula { (bytes : List ℕ) (c : Claim) → SpellsFormulaText bytes c → ReparsedFormula c }
-{}

@@ -1,14 +1,13 @@
 ghost use Rattle.std.specs.Prelude.{◌∷◌, []};
 ghost use Rattle.smv_tree.specs.Models.{part_of};
-ghost use Rattle.smv_parse.specs.Halts.{Reads};
+ghost use Rattle.smv_reading.specs.Halts.{Reads};
 ghost use Rattle.smv_parse.specs.ProgramSteps.{constrained_at, definition_at};
 ghost use Rattle.smv_parse.specs.ShapeSteps.{assigned_at, assigned_in_at, assignment_at, assignment_behind, declaration_at};
 
-use crate::halt::Halt;
-use crate::mark::Mark;
 use crate::program_front::{copy_name, expression_at, mark_at, named_at, past_semicolon};
 use crate::shapes::shape;
-use crate::token::{Lexeme, Token};
+use smv_reading::Halt;
+use smv_token::{Lexeme, Mark, Token};
 use smv_tree::{Item, Kind, Moment, Name, Place, Section};
 use std::alloc::Global;
 

@@ -1,11 +1,11 @@
 ghost use Rattle.smv_tree.specs.Models.{bodies};
-ghost use Rattle.smv_parse.specs.FormulaReading.{Flagged};
-ghost use Rattle.smv_parse.specs.Halts.{Reads};
-ghost use Rattle.smv_parse.specs.Texts.{modules_of};
+ghost use Rattle.smv_text_reading.specs.FormulaReading.{Flagged};
+ghost use Rattle.smv_reading.specs.Halts.{Reads};
+ghost use Rattle.smv_text_reading.specs.TextReading.{modules_of};
 
-use crate::halt::Halt;
 use crate::modules::modules;
-use crate::token::Token;
+use smv_reading::Halt;
+use smv_token::Token;
 use smv_tree::Program;
 use std::alloc::Global;
 

@@ -1,20 +1,19 @@
 ghost use Rattle.std.specs.Prelude.{◌≡◌, Ok};
 ghost use Rattle.smv_tree.specs.Trees.{expr_tree};
-ghost use Rattle.smv_parse.specs.Halts.{Reads};
+ghost use Rattle.smv_reading.specs.Halts.{Reads};
 ghost use Rattle.smv_parse.specs.ProgramSteps.{mark_at, named_at, past_semicolon};
-ghost use Rattle.smv_parse.specs.RuleReading.{read_piece};
-ghost use Rattle.smv_parse.specs.Rules.{expression};
+ghost use Rattle.smv_text_reading.specs.RuleReading.{read_piece};
+ghost use Rattle.smv_grammar.specs.Rules.{expression};
 
-use crate::expression::at;
-use crate::forms::{DEEPEST, LOOSEST};
-use crate::halt::Halt;
-use crate::mark::Mark;
-use crate::token::{Lexeme, Token};
+use smv_expr::expression::at;
+use smv_grammar::{DEEPEST, LOOSEST};
+use smv_reading::Halt;
+use smv_token::{Lexeme, Mark, Token};
 use smv_tree::{Expr, Name, Place};
 use std::alloc::{AllocError, Global};
 
 /// The place of the mark at the front, and the tokens after it.
-#[tactic(auto, unfolding(crate::specs::Reading::same_mark))]
+#[tactic(auto, unfolding(smv_grammar::specs::IsMark::same_mark))]
 pub fn mark_at(mark: Mark, tokens: &[Token]) -> Result<(Place, &[Token]), Halt>
     ensures { Reads (λ x. (x.0, x.1.now)) result (mark_at mark tokens.now) }
 {
@@ -48,7 +47,7 @@ pub fn named_at(alloc: Global, tokens: &[Token]) -> Result<(Name, Place, &[Token
 }
 
 /// The expression at the front, and the tokens after it.
-#[tactic(auto, unfolding(crate::specs::RuleReading::read_piece))]
+#[tactic(auto, unfolding(smv_text_reading::specs::RuleReading::read_piece))]
 pub fn expression_at(alloc: Global, tokens: &[Token]) -> Result<(Expr, &[Token]), Halt>
     ensures { Reads (λ x. (expr_tree x.0, x.1.now)) result (read_piece expression tokens.now) }
 {
@@ -57,7 +56,7 @@ pub fn expression_at(alloc: Global, tokens: &[Token]) -> Result<(Expr, &[Token])
 }
 
 /// The tokens after a semicolon, if there is one.
-#[tactic(auto, unfolding(crate::specs::Reading::same_mark))]
+#[tactic(auto, unfolding(smv_grammar::specs::IsMark::same_mark))]
 pub fn past_semicolon(tokens: &[Token]) -> &[Token]
     ensures { result.now ≡ past_semicolon tokens.now }
 {

@@ -1,20 +1,21 @@
 ghost use Rattle.std.specs.Prelude.{◌≤◌, IfErr, IfOk, List, Ok, Err, length};
 ghost use Rattle.smv_tree.specs.Models.{Body, bodies};
-ghost use Rattle.smv_parse.specs.Halts.{Reads};
-ghost use Rattle.smv_parse.specs.Texts.{ExplainsProgram, SpellsProgram, modules_of};
-ghost use Rattle.smv_parse.specs.Verdicts.{Answers, Unless, judged_by, verdict};
+ghost use Rattle.smv_reading.specs.Halts.{Reads};
+ghost use Rattle.smv_grammar.specs.Texts.{ExplainsProgram, SpellsProgram};
+ghost use Rattle.smv_text_reading.specs.TextReading.{modules_of};
+ghost use Rattle.smv_text_reading.specs.Verdicts.{Answers, Unless, judged_by, verdict};
 
-use crate::fault::ParseFault;
-use crate::formula::group_flags;
-use crate::halt::Halt;
 use crate::parse::{fault_of, halt_fault};
 use crate::program::program;
-use crate::token::{ScannedText, Token, scan};
+use smv_expr::formula::group_flags;
+use smv_grammar::ParseFault;
+use smv_reading::Halt;
+use smv_token::{ScannedText, Token, scan};
 use smv_tree::Program;
 use std::alloc::{AllocError, Global};
 
 /// The program of all tokens.
-#[tactic(auto, using(crate::proofs::FormulaRests::all_flagged))]
+#[tactic(auto, using(smv_text_reading::proofs::FormulaRests::all_flagged))]
 fn whole_program(alloc: Global, tokens: &[Token]) -> Result<Program, Halt>
     ensures { Reads bodies result (modules_of tokens.now) }
 {
@@ -23,7 +24,7 @@ fn whole_program(alloc: Global, tokens: &[Token]) -> Result<Program, Halt>
 }
 
 /// The verdict on the tokens of a text.
-#[tactic(auto, using(crate::proofs::TextVerdicts::program_within, crate::proofs::TextVerdicts::program_deep))]
+#[tactic(auto, using(smv_text_reading::proofs::TextVerdicts::program_within, smv_text_reading::proofs::TextVerdicts::program_deep))]
 fn judge_program(alloc: Global, text: &ScannedText) -> Result<Program, ParseFault>
     ensures { Answers bodies result (verdict text.now.tokens.items text.now.stop text.now.end (modules_of text.now.tokens.items)) }
 {

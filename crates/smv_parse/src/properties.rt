@@ -1,23 +1,22 @@
 ghost use Rattle.std.specs.Prelude.{◌∷◌, [], None, Some};
 ghost use Rattle.smv_tree.specs.Models.{formula_claim, part_of};
-ghost use Rattle.smv_parse.specs.FormulaReading.{Flagged};
-ghost use Rattle.smv_parse.specs.Halts.{Reads};
-ghost use Rattle.smv_parse.specs.RuleReading.{read_piece};
-ghost use Rattle.smv_parse.specs.Rules.{formula};
+ghost use Rattle.smv_text_reading.specs.FormulaReading.{Flagged};
+ghost use Rattle.smv_reading.specs.Halts.{Reads};
+ghost use Rattle.smv_text_reading.specs.RuleReading.{read_piece};
+ghost use Rattle.smv_grammar.specs.Rules.{formula};
 ghost use Rattle.smv_parse.specs.SectionSteps.{property_at, specified_at, specified_by_name_at};
 
-use crate::forms::{DEEPEST, OUTERMOST};
-use crate::formula::at;
-use crate::front::option_at;
-use crate::halt::Halt;
-use crate::mark::Mark;
 use crate::program_front::{mark_at, named_at, past_semicolon};
-use crate::token::Token;
+use smv_expr::formula::at;
+use smv_expr::front::option_at;
+use smv_grammar::{DEEPEST, OUTERMOST};
+use smv_reading::Halt;
+use smv_token::{Mark, Token};
 use smv_tree::{Formula, Item, Name, Place};
 use std::alloc::Global;
 
 /// The formula at the front, and the tokens after it.
-#[tactic(auto, unfolding(crate::specs::RuleReading::read_piece))]
+#[tactic(auto, unfolding(smv_text_reading::specs::RuleReading::read_piece))]
 fn formula_at<'a>(
     alloc: Global,
     flags: &[bool],

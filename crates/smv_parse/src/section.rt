@@ -1,15 +1,14 @@
 ghost use Rattle.std.specs.Prelude.{◌≡◌, ◌∷◌, ◌++◌, [], IfErr, OnOk, map};
 ghost use Rattle.smv_tree.specs.Models.{part_of};
-ghost use Rattle.smv_parse.specs.FormulaReading.{Flagged};
-ghost use Rattle.smv_parse.specs.Halts.{IsMemory, Reads};
+ghost use Rattle.smv_text_reading.specs.FormulaReading.{Flagged};
+ghost use Rattle.smv_reading.specs.Halts.{IsMemory, Reads};
 ghost use Rattle.smv_parse.specs.ProgramSteps.{constrained_at, prefixed};
 ghost use Rattle.smv_parse.specs.SectionSteps.{assigns, is_section, part_at, part_begins, parts_at, property_at, section_at, section_begins, section_behind, sections_at};
 
-use crate::halt::Halt;
-use crate::mark::Mark;
 use crate::parts::{assignment, constrained, declaration, definition};
 use crate::properties::property;
-use crate::token::{Lexeme, Token};
+use smv_reading::Halt;
+use smv_token::{Lexeme, Mark, Token};
 use smv_tree::{Item, Items, Kind, Place, Section};
 use std::alloc::Global;
 
@@ -146,7 +145,7 @@ fn section_behind<'a>(
 }
 
 /// A section, behind other parts.
-#[tactic(auto, using(crate::proofs::FormulaRests::flagged_behind), unfolding(crate::specs::SectionSteps::section_at))]
+#[tactic(auto, using(smv_text_reading::proofs::FormulaRests::flagged_behind), unfolding(crate::specs::SectionSteps::section_at))]
 fn section<'a>(
     alloc: Global,
     flags: &[bool],

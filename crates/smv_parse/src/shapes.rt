@@ -1,17 +1,16 @@
 ghost use Rattle.std.specs.Prelude.{◌≡◌, ◌∷◌, ◌++◌, [], IfErr, OnOk, map};
 ghost use Rattle.smv_tree.specs.Models.{shape_of};
 ghost use Rattle.smv_tree.specs.Trees.{expr_tree};
-ghost use Rattle.smv_parse.specs.Halts.{Reads};
+ghost use Rattle.smv_reading.specs.Halts.{Reads};
 ghost use Rattle.smv_parse.specs.ProgramSteps.{commas};
 ghost use Rattle.smv_parse.specs.ShapeSteps.{actuals_at, all_actuals_at, instance_behind, one_expr, plain_at, shape_at};
 
-use crate::front::option_at;
-use crate::halt::Halt;
-use crate::mark::Mark;
 use crate::program_front::{copy_name, expression_at, mark_at};
-use crate::simple::push_operand;
-use crate::token::{Lexeme, Token};
 use crate::types::type_at;
+use smv_expr::front::option_at;
+use smv_expr::push_operand;
+use smv_reading::Halt;
+use smv_token::{Lexeme, Mark, Token};
 use smv_tree::{Exprs, Name, Place, TypeSyntax};
 use std::alloc::Global;
 

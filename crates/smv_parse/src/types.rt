@@ -1,20 +1,19 @@
 ghost use Rattle.std.specs.Prelude.{◌≡◌, ◌∷◌, ◌++◌, [], IfErr, OnOk};
-ghost use Rattle.smv_parse.specs.Halts.{IsMemory, Reads};
-ghost use Rattle.smv_parse.specs.Programs.{width};
+ghost use Rattle.smv_reading.specs.Halts.{IsMemory, Reads};
+ghost use Rattle.smv_grammar.specs.Programs.{width};
 ghost use Rattle.smv_parse.specs.ProgramSteps.{commas};
 ghost use Rattle.smv_parse.specs.TypeSteps.{below_zero_at, elem_at, enumeration_at, integer_at, interval_at, one_elem, sized_at, type_at, type_behind, word_at};
 
-use crate::forms::integer;
-use crate::front::{number_at, option_at};
-use crate::halt::Halt;
-use crate::mark::Mark;
 use crate::program_front::{copy_name, mark_at};
-use crate::token::{Lexeme, Token};
+use smv_expr::front::{number_at, option_at};
+use smv_grammar::integer;
+use smv_reading::Halt;
+use smv_token::{Lexeme, Mark, Token};
 use smv_tree::{Place, Ty, Value, Values};
 use std::alloc::Global;
 
 /// An integer: a number with a `-` before it or not.
-#[tactic(auto, unfolding(crate::specs::TypeSteps::integer_at, crate::specs::Reading::same_mark))]
+#[tactic(auto, unfolding(crate::specs::TypeSteps::integer_at, smv_grammar::specs::IsMark::same_mark))]
 fn integer_at(tokens: &[Token]) -> Result<(i64, &[Token]), Halt>
     ensures { Reads (λ x. (x.0, x.1.now)) result (integer_at tokens.now) }
 {

@@ -1,4 +1,7 @@
-ghost use Rattle.std.specs.Prelude.{◌≡◌, ◌↔◌, IsTrue, Contains};
+ghost use Rattle.std.specs.Prelude.{◌≡◌, ◌↔◌, ◌<◌, ◌^◌, ℕ, Bool, IsTrue, Contains};
+ghost use Rattle.smv_tree.specs.Word.{Word as Bits};
+ghost use Rattle.smv_tree.specs.declared.value.Value.TheVariants.{Word};
+ghost use Rattle.smv_tree.specs.declared.value.Ty.TheVariants.{Word as WordType};
 ghost use Rattle.smv_tree.specs.Legal.{IsLegal};
 
 use crate::{Ty, Value};
@@ -35,3 +38,11 @@ pub fn legal(ty: &Ty, v: &Value) -> bool
         _ => false,
     }
 }
+
+/// A word that a type lists has no bit beyond the width, so it is one that can be made.
+pub fn legal_words_fit()
+    ensures fits { (signed : Bool) (width : ℕ) (w : Bits) →
+        IsLegal (WordType signed width) (Word w) → w.bits < 2 ^ width }
+    ensures like { (signed : Bool) (width : ℕ) (w : Bits) →
+        IsLegal (WordType signed width) (Word w) → (w.signed ≡ signed) × (w.width ≡ width) }
+{}

@@ -15,7 +15,7 @@ mod value;
 
 pub use expr::{Branch, Branches, Expr, Exprs, Op1, Op2};
 pub use formula::{FormOp, Formula};
-pub use legality::legal;
+pub use legality::{legal, legal_words_fit};
 pub use name::{Name, Path};
 pub use place::Place;
 pub use program::{

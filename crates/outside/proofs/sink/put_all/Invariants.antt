@@ -7,7 +7,7 @@ abbrev pub invariant-loop-at : goal.invariant-loop-at
 invariant-loop-at g l =
     (l.at ≤ length l.bytes)
     × ((g.S.Sink.told l.out).written ≡ append_known (g.S.Sink.told l.initial.out).written (take l.at l.bytes))
-    × ((g.S.Sink.told l.initial.out).faults ≤ (g.S.Sink.told l.out).faults)
+    × ((g.S.Sink.told l.out).faults ≡ (g.S.Sink.told l.initial.out).faults)
 
 abbrev pub decreases-loop-at : goal.decreases-loop-at
 decreases-loop-at g l = length l.bytes - l.at

@@ -10,7 +10,7 @@ invariant-loop-next g l =
       one_line : IsOneLine l.line;
       within : length l.line ≤ l.limit;
       taken : (g.S.Source.told l.initial.from).left ≡ prepend_known l.line (g.S.Source.told l.from).left;
-      count : (g.S.Source.told l.initial.from).faults ≤ (g.S.Source.told l.from).faults;
+      quiet : (g.S.Source.told l.from).faults ≡ (g.S.Source.told l.initial.from).faults;
     }
 
 abbrev pub decreases-loop-next : goal.decreases-loop-next

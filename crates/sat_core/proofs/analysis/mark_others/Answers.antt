@@ -2,10 +2,10 @@ use Rattle.std.proofs.Common.{◌≡◌, ◌+◌, ◌<◌, ◌≤◌, ℕ, Bool,
 use Rattle.std.specs.List.{AllByRecursion}
 use Rattle.std.proofs.lemmas.Bool.{iff_false, eq-eqb, ne_eqb}
 use Rattle.sat_log.specs.Clause.{Among}
+use Rattle.sat_log.proofs.LiteralLemmas.{All-among}
 use Rattle.sat_core.specs.Trail.{literals}
 use Rattle.sat_core.specs.Analysis.{is_marked, IsMarked}
 use Rattle.sat_core.proofs.Marks.{marks_same, marks_one, marked_more_in}
-use Rattle.sat_core.proofs.Literals.{All-among}
 use Rattle.sat_core.proofs.Looks.{stands_at}
 use Rattle.sat_core.proofs.analysis.mark_others.Goals as goal
 use Rattle.sat_core.proofs.analysis.mark_others.Goals.{then-is_true-via-then-is_true, then-is_true-via-else-is_true+then-seen-var, then-level_of-level, else-level_of-level}

@@ -1,15 +1,12 @@
-use Rattle.std.proofs.Common.{[], refl}
-use Rattle.std.specs.Prelude.{Ok}
-use Rattle.outside.specs.declared.source.Line.TheVariants as line
-use Rattle.shell.specs.declared.next.Next.TheVariants.{Stop}
-use Rattle.shell.specs.Written.{sinks_of}
-use Rattle.shell.proofs.TellLemmas.{nothing_told}
+use Rattle.std.proofs.Common.{arith}
+use Rattle.shell.proofs.Opening.{not_turned, prompt_over, turned}
 use Rattle.shell.proofs.run.turn.Goals as goal
 
-pub returns-in-Ok-End-clause-turns : goal.returns-in-Ok-End-clause-turns
-returns-in-Ok-End-clause-turns g c = (
-  [],
-  Stop 0,
-  (Ok line.End, rw c.in-Ok-End.field-0-is at c.in-Ok-End.ensures.reads, c.in-Ok-End.ensures.cause, (refl, (refl, refl), refl)),
-  nothing_told (Stop 0) (sinks_of (g.O.Sink.told c.args.out.now) (g.E.Sink.told c.args.err.now)),
-)
+pub returns-then-not-goes_along-clause-does : goal.returns-then-not-goes_along-clause-does
+returns-then-not-goes_along-clause-does g c = not_turned c.args.prompts c.args.count c.say_if-end.ensures (grind arith)
+
+pub returns-clause-does : goal.returns-clause-does
+returns-clause-does g c = turned c.args.prompts c.args.count c.read_line-read.result c.say_if-end.ensures (grind arith) c.read_line-read.ensures c.treat.ensures.does
+
+pub returns-then-not-goes_along-clause-last : goal.returns-then-not-goes_along-clause-last
+returns-then-not-goes_along-clause-last g c = λ k. prompt_over c.args.state.now c.args.prompts c.say_if-end.ensures (grind arith)

@@ -1,8 +1,12 @@
--- Each operator has a line.
-use Rattle.std.proofs.Common.{◌≡◌, true, false, ap, ◌∙◌}
+-- Each operator has a line, and the line meets its definition.
+use Rattle.std.proofs.Common.{◌≡◌, true, false, ap, sym, ◌∙◌}
 use Rattle.std.specs.Prelude.{is_some}
 use Rattle.smv_kinds.proofs.Lines.{two_has_line}
+use Rattle.smv_kinds.proofs.Meets.{two_met}
 use Rattle.smv_kinds.proofs.operators.two_typing.Goals as goal
 
 pub unreachable-requires : goal.unreachable-requires
 unreachable-requires c = let none : false ≡ true = ap is_some c.in-None.ensures ∙ two_has_line c.args.operator in cc
+
+pub returns : goal.returns
+returns c = c.typing.ensures ∙ two_met c.args.operator c.in-Some.line c.args.left c.args.right (sym c.find.ensures ∙ c.in-Some.is)

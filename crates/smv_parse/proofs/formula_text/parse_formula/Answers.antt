@@ -1,6 +1,6 @@
 use Rattle.smv_tree.specs.Models.{formula_claim}
-use Rattle.smv_parse.proofs.Judging.{answers_cause, answers_found, answers_only, answers_refused}
-use Rattle.smv_parse.proofs.TextVerdicts.{formula_decides}
+use Rattle.smv_text_reading.proofs.Judging.{answers_cause, answers_found, answers_only, answers_refused}
+use Rattle.smv_text_reading.proofs.TextVerdicts.{formula_decides}
 use Rattle.smv_parse.proofs.formula_text.parse_formula.Goals as goal
 
 pub returns-clause-found : goal.returns-clause-found

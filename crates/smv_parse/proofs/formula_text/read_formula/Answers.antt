@@ -1,9 +1,9 @@
 use Rattle.std.proofs.Common.{Result, subst}
 use Rattle.smv_tree.specs.Models.{Claim, formula_claim}
-use Rattle.smv_parse.specs.declared.fault.ParseFault.{ParseFault}
-use Rattle.smv_parse.specs.Texts.{formula_of}
-use Rattle.smv_parse.specs.Verdicts.{Answers}
-use Rattle.smv_parse.proofs.Judging.{judged_so}
+use Rattle.smv_grammar.specs.declared.fault.ParseFault.{ParseFault}
+use Rattle.smv_text_reading.specs.TextReading.{formula_of}
+use Rattle.smv_text_reading.specs.Verdicts.{Answers}
+use Rattle.smv_text_reading.proofs.Judging.{judged_so}
 use Rattle.smv_parse.proofs.formula_text.read_formula.Goals as goal
 
 pub returns : goal.returns

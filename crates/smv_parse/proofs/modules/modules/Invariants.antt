@@ -1,6 +1,6 @@
 use Rattle.std.proofs.Common.{◌≡◌, length, map}
 use Rattle.smv_tree.specs.Models.{body_of}
-use Rattle.smv_parse.specs.FormulaReading.{Flagged}
+use Rattle.smv_text_reading.specs.FormulaReading.{Flagged}
 use Rattle.smv_parse.specs.ModuleSteps.{modules_at}
 use Rattle.smv_parse.specs.ProgramSteps.{prefixed}
 use Rattle.smv_parse.proofs.modules.modules.Given as goal

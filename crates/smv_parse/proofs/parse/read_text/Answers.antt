@@ -1,9 +1,9 @@
 use Rattle.std.proofs.Common.{Result, subst}
 use Rattle.smv_tree.specs.Trees.{Tree, expr_tree}
-use Rattle.smv_parse.specs.declared.fault.ParseFault.{ParseFault}
-use Rattle.smv_parse.specs.Texts.{expression_of}
-use Rattle.smv_parse.specs.Verdicts.{Answers}
-use Rattle.smv_parse.proofs.Judging.{judged_so}
+use Rattle.smv_grammar.specs.declared.fault.ParseFault.{ParseFault}
+use Rattle.smv_text_reading.specs.TextReading.{expression_of}
+use Rattle.smv_text_reading.specs.Verdicts.{Answers}
+use Rattle.smv_text_reading.proofs.Judging.{judged_so}
 use Rattle.smv_parse.proofs.parse.read_text.Goals as goal
 
 pub returns : goal.returns

@@ -1,9 +1,9 @@
 use Rattle.std.proofs.Common.{List, Result, subst}
 use Rattle.smv_tree.specs.Models.{Body, bodies}
-use Rattle.smv_parse.specs.declared.fault.ParseFault.{ParseFault}
-use Rattle.smv_parse.specs.Texts.{modules_of}
-use Rattle.smv_parse.specs.Verdicts.{Answers}
-use Rattle.smv_parse.proofs.Judging.{judged_so}
+use Rattle.smv_grammar.specs.declared.fault.ParseFault.{ParseFault}
+use Rattle.smv_text_reading.specs.TextReading.{modules_of}
+use Rattle.smv_text_reading.specs.Verdicts.{Answers}
+use Rattle.smv_text_reading.proofs.Judging.{judged_so}
 use Rattle.smv_parse.proofs.program_text.read_program.Goals as goal
 
 pub returns : goal.returns

@@ -1,6 +1,6 @@
 use Rattle.std.proofs.Common.{◌≡◌, length, map}
 use Rattle.smv_tree.specs.Models.{part_of}
-use Rattle.smv_parse.specs.FormulaReading.{Flagged}
+use Rattle.smv_text_reading.specs.FormulaReading.{Flagged}
 use Rattle.smv_parse.specs.ProgramSteps.{prefixed}
 use Rattle.smv_parse.specs.SectionSteps.{sections_at}
 use Rattle.smv_parse.proofs.section.sections.Given as goal

@@ -2,9 +2,9 @@ use Rattle.std.proofs.Common.{◌≡◌, ◌≢◌, ◌-◌, inl, ap, sym, subst
 use Rattle.std.specs.Prelude.{None}
 use Rattle.sat_log.specs.Literal.{negated}
 use Rattle.sat_log.specs.Clause.{Among}
+use Rattle.sat_log.proofs.LiteralLemmas.{negated-negated}
 use Rattle.sat_core.specs.Trail.{literals}
 use Rattle.sat_core.specs.Analysis.{Analyzed, IsUnmarked}
-use Rattle.sat_core.proofs.Literals.{negated-negated}
 use Rattle.sat_core.proofs.Walks.{one_literal}
 use Rattle.sat_core.proofs.Levels.{trail_distinct}
 use Rattle.sat_core.proofs.Visits.{trail_at, in_whole, reason_at, All-at_entry}

@@ -2,11 +2,11 @@ use Rattle.std.proofs.Common.{◌≡◌, ◌+◌, ◌-◌, false, [], ◌∷◌,
 use Rattle.std.specs.Prelude.{None}
 use Rattle.sat_log.specs.Literal.{Literal, negated}
 use Rattle.sat_log.specs.Clause.{Among}
+use Rattle.sat_log.proofs.ListLemmas.{All-append, All-back}
+use Rattle.sat_log.proofs.LiteralLemmas.{negated-negated}
 use Rattle.sat_core.specs.Trail.{literals, bottom}
 use Rattle.sat_core.specs.Units.{AreDecided}
 use Rattle.sat_core.specs.Analysis.{Analyzed, is_marked, IsMarked, MarksOthers, IsAnalysis, AreNegationsOf}
-use Rattle.sat_core.proofs.Literals.{negated-negated}
-use Rattle.sat_core.proofs.Logs.{All-append, All-back}
 use Rattle.sat_core.proofs.Levels.{trail_distinct}
 use Rattle.sat_core.proofs.Visits.{parts_of, analyzed_is, unmarked_at, visit_skip, visit_keep, reason_of, visit_resolve}
 use Rattle.sat_core.proofs.analysis.Analysis.trace.Goals as goal

@@ -4,10 +4,10 @@ use Rattle.sat_log.specs.Literal.{Literal}
 use Rattle.sat_log.specs.Clause.{Among, IsUnset}
 use Rattle.sat_log.specs.Accepted.{clauses}
 use Rattle.sat_log.specs.Checking.{IsUpTo}
+use Rattle.sat_log.proofs.LiteralLemmas.{All-among}
 use Rattle.sat_core.specs.Trail.{literals}
 use Rattle.sat_core.specs.Units.{AreQuiet}
 use Rattle.sat_core.specs.Search.{Searched}
-use Rattle.sat_core.proofs.Literals.{All-among}
 use Rattle.sat_core.proofs.Searches.{top_length, keeps_decision}
 use Rattle.sat_core.proofs.search.Search.decide.Goals as goal
 

@@ -1,10 +1,20 @@
-use Rattle.std.proofs.Common.{◌≡◌, List, ap, subst}
+use Rattle.std.proofs.Common.{◌≡◌, List, [], ap, sym, subst}
 use Rattle.sat_log.specs.Literal.{Literal}
 use Rattle.sat_core.specs.Assignment.{HasNoSolution}
 use Rattle.sat_core.specs.Verdicts.{IfNo}
 use Rattle.sat_core.specs.Contents.{Contents}
+use Rattle.sat_core.specs.Gained.{AreLearned}
+use Rattle.sat_core.proofs.Rests.{learned_longer}
 use Rattle.sat_core.proofs.Runs.{if_no, gains_same}
 use Rattle.sat_core.proofs.solver.Solver.solve.Goals as goal
+
+pub invariant_of-self : goal.invariant_of-self
+invariant_of-self c =
+    let g = c.run-verdict.ensures.gains in
+    record {
+      level = c.reset.ensures.level;
+      learned = subst (AreLearned []) (sym c.reset.ensures.log) (learned_longer c.self.inside.search.log c.run-verdict.new.self.log c.self.invariant.learned g.longer g.learned);
+    }
 
 pub returns-clause-refuted : goal.returns-clause-refuted
 returns-clause-refuted c =

@@ -3,8 +3,8 @@ use Rattle.std.proofs.lemmas.List.{get_or_default}
 use Rattle.sat_log.specs.Literal.{Literal, packed}
 use Rattle.sat_log.specs.Clause.{Among}
 use Rattle.sat_log.specs.Marked.{is_numbered}
+use Rattle.sat_log.proofs.Decided.{among_from_set, set_from_among}
 use Rattle.sat_core.specs.Trail.{Trailed, literals}
-use Rattle.sat_core.proofs.Literals.{among_from_numbered, numbered_from_among}
 use Rattle.sat_core.proofs.Tables.{place_within, literals_of}
 use Rattle.sat_core.proofs.trail.Trail.is_true.Goals as goal
 
@@ -20,6 +20,6 @@ returns c =
     c.index-2.ensures ∙ get_or_default t.truths.items c.index.result c.index-2.result.now false inside ∙ c.self.invariant.values c.index.result inside ∙ ap (is_numbered (reverse t.trail.items)) c.index.ensures.value in
     let lits : literals c.args.self.now.entries ≡ reverse t.trail.items =
     ap (λ (v : Trailed). literals v.entries) (sym c.self.view_is) ∙ literals_of t.levels.items t.reasons.items (reverse t.trail.items) in (
-      (λ e. subst (λ (s : List Literal). Among s l) (sym lits) (among_from_numbered (reverse t.trail.items) l (sym same ∙ e))),
-      (λ m. same ∙ numbered_from_among (reverse t.trail.items) l (subst (λ (s : List Literal). Among s l) lits m)),
+      (λ e. subst (λ (s : List Literal). Among s l) (sym lits) (among_from_set (reverse t.trail.items) l (sym same ∙ e))),
+      (λ m. same ∙ set_from_among (reverse t.trail.items) l (subst (λ (s : List Literal). Among s l) lits m)),
     )

@@ -60,7 +60,7 @@ pub answer-requires : goal.answer-requires
 answer-requires c =
     let new = c.search.new.self in
     let all = c.in_ok-define_all.ensures.nodes in
-    let enough = subst (λ ns. length ns ≤ new.variables) (c.search.ensures.nodes ∙ all) c.search.ensures.enough in
+    let enough = subst (λ ns. length ns ≤ new.variables) (c.search.ensures.nodes ∙ all) c.search.ensures.kept.enough in
     valued c.args.g.now new.log c.in_ok-want.want new.variables c.in_ok-found.found (whole_originals c.args.g.now c.search.new.self.log c.define_all.ensures.well_formed (c.search.ensures.kept.clauses ∙ ap definitions (c.search.ensures.nodes ∙ c.in_ok-define_all.ensures.nodes))) enough c.in_ok-found.ensures.yes
 
 pub returns-clause-yes : goal.returns-clause-yes

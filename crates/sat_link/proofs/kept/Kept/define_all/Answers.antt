@@ -8,12 +8,13 @@ loop-n-init c = record {
   count = omega (arith, c.nodes-n.ensures.count);
   within = omega (arith, c.nodes-n.ensures.count, c.requires.longer);
   towards = towards_start c.args.g.now c.args.self.now c.requires;
+  variables = omega (arith, c.nodes-n.ensures.count, c.nodes-n.ensures.kept.enough);
   kept = c.nodes-n.ensures.kept;
 }
 
 pub returns-in_err-define_next-clause-towards : goal.returns-in_err-define_next-clause-towards
 returns-in_err-define_next-clause-towards c =
-    towards_stopped c.args.g.now c.args.self.now c.loop-n.self c.define_next.new.self c.loop-n.invariant.towards c.in_err-define_next.ensures.err c.define_next.ensures.log
+    towards_stopped c.args.g.now c.args.self.now c.loop-n.self c.define_next.new.self c.loop-n.invariant.towards c.in_err-define_next.ensures.err (omega (arith, c.define_next.ensures.no_fewer)) (omega (arith, c.loop-n.invariant.variables, c.loop-n.invariant.count, c.nodes-n-end.ensures.count, c.define_next.ensures.no_more)) c.define_next.ensures.log
 
 pub loop-n-preserved : goal.loop-n-preserved
 loop-n-preserved c =
@@ -23,6 +24,7 @@ loop-n-preserved c =
     record {
       count = ap length c.in_ok-define_next.ensures.ok ∙ length_push c.loop-n.self.nodes c.node.result ∙ omega (arith, loop.count);
       within = omega arith;
-      towards = towards_next g c.args.self.now c.loop-n.self c.define_next.new.self c.loop-n.n c.node.result loop.towards loop.count below c.node.ensures.node c.in_ok-define_next.ensures.ok c.define_next.ensures.log;
+      towards = towards_next g c.args.self.now c.loop-n.self c.define_next.new.self c.loop-n.n c.node.result loop.towards loop.count below c.node.ensures.node c.in_ok-define_next.ensures.ok c.in_ok-define_next.ensures.variables c.define_next.ensures.log;
+      variables = omega (arith, loop.variables, loop.count, c.in_ok-define_next.ensures.variables, ap length c.in_ok-define_next.ensures.ok ∙ length_push c.loop-n.self.nodes c.node.result);
       kept = c.define_next.ensures.kept;
     }

@@ -1,4 +1,4 @@
-use Rattle.std.proofs.Common.{◌≡◌, ◌≤◌, length}
+use Rattle.std.proofs.Common.{◌≡◌, ◌≤◌, max, length}
 use Rattle.sat_link.specs.Contents.{HasDefinitions, GrowsTowards}
 use Rattle.sat_link.proofs.kept.Kept.define_all.Given as goal
 
@@ -8,5 +8,6 @@ invariant-loop-n l = record {
   count : length l.self.nodes ≡ l.n;
   within : l.n ≤ length l.g;
   towards : GrowsTowards l.g l.fn.self l.self;
+  variables : l.self.variables ≡ max l.fn.self.variables l.n;
   kept : HasDefinitions l.self;
 }

@@ -12,4 +12,4 @@ pub invariant_of-self : goal.invariant_of-self
 invariant_of-self c = kept c
 
 pub returns-clause-kept : goal.returns-clause-kept
-returns-clause-kept c = let k = kept c in record { is_log = k.is_log; clauses = k.clauses }
+returns-clause-kept c = let k = kept c in record { enough = k.variables; spare = k.spare; is_log = k.is_log; clauses = k.clauses }

@@ -1,0 +1,12 @@
+pub mod NamesLemmas
+pub mod PlainLemmas
+pub mod EvaluationLemmas
+pub mod MainLemmas
+pub mod NamingLemmas
+pub mod TruthLemmas
+pub mod RunLemmas
+pub mod LineLemmas
+pub mod SectionLemmas
+pub mod ReadingLemmas
+pub mod StateLemmas
+pub mod JudgeLemmas

@@ -1,0 +1,4 @@
+pub mod Rowwise
+pub mod Truth
+pub mod Normals
+pub mod Steps

@@ -1,0 +1,10 @@
+use Rattle.std.proofs.Common.{◌≡◌, ℕ, ◌+◌, ◌<◌, ◌≤◌, length}
+use Rattle.ltl_form.specs.Rows.{told}
+use Rattle.ltl_form.proofs.row.Row.shifted.Given as goal
+
+abbrev pub invariant-loop-p : goal.invariant-loop-p
+invariant-loop-p l = record {
+  places : length l.row ≡ length l.self;
+  values : (q : ℕ) → q + 1 < l.p → told l.row q ≡ told l.self (q + 1);
+  last : (q : ℕ) → l.p ≤ q + 1 → q < length l.self → told l.row q ≡ l.last;
+}

@@ -1,0 +1,10 @@
+use Rattle.std.proofs.Common.{◌≡◌, ℕ, ◌+◌, ◌<◌, length}
+use Rattle.ltl_form.specs.Nodes.{node_at}
+use Rattle.ltl_form.specs.Rows.{row_at, short_value, IsRow}
+use Rattle.ltl_form.proofs.short.short_rows.Given as goal
+
+abbrev pub invariant-loop-node : goal.invariant-loop-node
+invariant-loop-node l = record {
+  count : length l.rows.items ≡ l.node-index;
+  each : (i : ℕ) → i < l.node-index → IsRow (l.k + 1) (short_value l.k l.t l.rows.items (node_at l.nodes i)) (row_at l.rows.items i);
+}

@@ -1,6 +1,0 @@
-use Rattle.std.proofs.Common.{◌∙◌}
-use Rattle.shell.proofs.NamesLemmas.{declared_items}
-use Rattle.shell.proofs.names.Names.contains.Goals as goal
-
-pub returns : goal.returns
-returns c = c.contains.ensures ∙ declared_items (λ v. v.items) c.args.name.now c.self.inside.names.keys c.args.self.now c.self.view_is

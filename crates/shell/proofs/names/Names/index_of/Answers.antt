@@ -1,6 +1,0 @@
-use Rattle.std.proofs.Common.{◌∙◌}
-use Rattle.shell.proofs.NamesLemmas.{position_items}
-use Rattle.shell.proofs.names.Names.index_of.Goals as goal
-
-pub returns : goal.returns
-returns c = c.get_index_of.ensures.index ∙ position_items (λ v. v.items) c.args.name.now c.self.inside.names.keys c.args.self.now c.self.view_is

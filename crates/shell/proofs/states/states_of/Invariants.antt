@@ -1,7 +1,0 @@
-use Rattle.std.proofs.Common.{map, drop}
-use Rattle.shell.specs.SectionViews.{section_of}
-use Rattle.shell.proofs.StateLemmas.{SectionsTo}
-use Rattle.shell.proofs.states.states_of.Given as goal
-
-abbrev pub invariant-loop-section : goal.invariant-loop-section
-invariant-loop-section l = SectionsTo l.names (map section_of l.sections) (map section_of (drop l.section-index l.sections)) (map (λ s. s.items) l.states.items)

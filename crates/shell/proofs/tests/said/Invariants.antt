@@ -1,5 +1,0 @@
-use Rattle.shell.proofs.tests.said.Given as goal
-
--- the ledger of the count of steps is the blank's
-abbrev pub ghosts-session : goal.ghosts-session
-ghosts-session a = record { name = a.blank.name; parts = a.blank.parts }

@@ -1,0 +1,14 @@
+use Rattle.std.proofs.Common.{refl, ap, sym}
+use Rattle.shell_world.proofs.Combining.{with_file, without_file}
+use Rattle.shell_model.specs.ModelCommands.{TakesText}
+use Rattle.shell_model.proofs.ModelLemmas.{within_limit}
+use Rattle.shell_model.proofs.model_commands.read_file_as_model.Goals as goal
+
+pub take_text-requires : goal.take_text-requires
+take_text-requires g c = rw c.as_slice.ensures (within_limit _ c.args.file.now c.in-Ok.text c.in-Ok.ensures)
+
+pub returns-in-Ok : goal.returns-in-Ok
+returns-in-Ok g c = with_file _ c.args.file.now (TakesText c.args.file.now) c.in-Ok.text c.in-Ok.ensures (rw (sym c.as_slice.ensures) c.take_text.ensures)
+
+pub returns-in-Err : goal.returns-in-Err
+returns-in-Err g c = without_file _ c.args.file.now (TakesText c.args.file.now) c.in-Err.fault c.in-Err.ensures c.refuse_file.ensures

@@ -1,0 +1,3 @@
+pub mod LogCommands
+pub mod ModelCommands
+pub mod TraceCommands

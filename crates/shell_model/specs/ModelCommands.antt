@@ -1,0 +1,60 @@
+-- The command that reads the model.
+use Rattle.std.specs.Prelude.{ℕ, List, Option, Some, None, Result, Ok, Err, codes}
+use Rattle.std.specs.Option.{option_or}
+use Rattle.cmd_table.specs.declared.commands.TheConstants.{READ_MODEL}
+use Rattle.cmd_table.specs.declared.fault.OptFault.TheVariants.{Required}
+use Rattle.cmd_table.specs.Options.{value_at}
+use Rattle.shell_lang.specs.Keyed.{at_name, with_name}
+use Rattle.smv_tree.specs.declared.program.Program.{Program}
+use Rattle.bool_replay.specs.declared.load.ModelFault.{ModelFault}
+use Rattle.bool_replay.specs.declared.load.ModelFault.TheVariants as fault
+use Rattle.bool_replay.specs.Verdicts.{ModelOf}
+use Rattle.shell_world.specs.declared.refusal.Refusal.{Refusal}
+use Rattle.shell_world.specs.declared.refusal.Refusal.TheVariants as refusal
+use Rattle.shell_world.specs.declared.state.State.{State}
+use Rattle.shell_world.specs.Processes.{Becomes, ForSome, Knowing, MayLack, Process, Refuses, Where}
+use Rattle.shell_world.specs.Steps.{WithFile, WithOptions}
+
+-- a model has at most so many bytes
+abbrev pub model_limit : ℕ
+model_limit = 4194304
+
+-- the file that the variable names
+abbrev pub input_file : State → Option (List ℕ)
+input_file state = at_name state.vars (codes "input_file")
+
+-- the session keeps this model, and the variable names its file
+abbrev pub with_read : List ℕ → Program → State → State
+with_read file program state =
+    record state { vars = with_name state.vars (codes "input_file") file; model = Some program }
+
+-- what is said of a text that is no model
+abbrev pub model_refusal : ModelFault → Refusal
+model_refusal (fault.Text f) = refusal.Model f
+model_refusal fault.NotBuilt = refusal.NotBuilt
+model_refusal fault.NoMemory = refusal.NoMemory
+
+-- the model that a text is, is kept, or the text is refused
+abbrev pub KeepsRead : List ℕ → Result Program ModelFault → Process
+KeepsRead file (Ok program) = MayLack (Becomes (with_read file program))
+KeepsRead file (Err f) = Refuses (model_refusal f)
+
+abbrev pub TakesText : List ℕ → List ℕ → Process
+TakesText file text = ForSome (λ answer. Where (ModelOf text answer) (KeepsRead file answer))
+
+-- a second model is refused before its file is looked at
+abbrev pub ReadsModel : List ℕ → Option Program → Process
+ReadsModel file (Some program) = Refuses refusal.ModelIsThere
+ReadsModel file None = WithFile model_limit file (TakesText file)
+
+abbrev pub ReadsNamed : Option (List ℕ) → State → Process
+ReadsNamed None state = MayLack (Refuses (refusal.Options (Required (codes "-i"))))
+ReadsNamed (Some file) state = ReadsModel file state.model
+
+-- the file is that of the option `-i`, or else that of the variable
+abbrev pub ReadsBy : Option (List ℕ) → Process
+ReadsBy given = Knowing (λ state. ReadsNamed (option_or given (input_file state)) state)
+
+-- the command `read_model`
+abbrev pub DoesModel : List (List ℕ) → Process
+DoesModel words = WithOptions READ_MODEL words (λ given. MayLack (ReadsBy (value_at given.values 0)))

@@ -1,0 +1,210 @@
+//! The topic of traces.
+ghost use Rattle.std.specs.Prelude.{◌≡◌, ◌≤◌, length, IfOk, Some};
+ghost use Rattle.cmd_table.specs.Options.{is_given};
+ghost use Rattle.shell_world.specs.Processes.{Becomes, MayLack, Then};
+ghost use Rattle.shell_world.specs.Steps.{WithFirst};
+ghost use Rattle.shell_world.specs.Written.{Does};
+ghost use Rattle.shell_model.specs.ModelCommands.{input_file};
+ghost use Rattle.shell_model.specs.TraceCommands.{DoesTrace, Executes, ExecutesFrom, ExecutesIf, ExecutesOnText, JudgesFile, JudgesText, TellsVerdict, with_model};
+
+use crate::model_commands::{MODEL_LIMIT, model_refusal};
+use bool_replay::{BoolModel, Verdict};
+use cmd_table::commands::EXECUTE_TEXT_TRACE;
+use cmd_table::{Given, read_options};
+use outside::{Text, Words};
+use shell_world::{
+    End, Event, Outside, Refusal, State, TraceEvent, read_file, refuse, refuse_file, say,
+};
+use std::alloc::{AllocError, Global};
+
+/// A trace has at most so many bytes.
+const TRACE_LIMIT: usize = 4_194_304;
+
+/// Says what a trace is.
+fn tell_verdict<W: Outside>(state: &State, world: &mut W, verdict: Verdict) -> End
+    ensures { Does W.told (TellsVerdict verdict) state.now world.old result state.now world.new }
+{
+    match verdict {
+        Verdict::Executed(count) => say(state, world, Event::Trace(TraceEvent::Executed(count))),
+        Verdict::Stops(number, cause) => {
+            say(state, world, Event::Trace(TraceEvent::Stops(number, cause)))
+        }
+        Verdict::NoValue(line, name) => refuse(state, world, Refusal::NoValue(line, name)),
+        Verdict::NotBuilt => refuse(state, world, Refusal::NotBuilt),
+    }
+}
+
+/// Says what the text of a trace is.
+fn judge_text<W: Outside>(
+    alloc: Global,
+    state: &State,
+    world: &mut W,
+    model: &BoolModel,
+    text: &[u8],
+) -> End
+    requires { length text.now ≤ 4194304 }
+    ensures { Does W.told (JudgesText model.now text.now)
+        state.now world.old result state.now world.new }
+{
+    match model.judge(alloc, text) {
+        Ok(verdict) => tell_verdict(state, world, verdict),
+        Err(AllocError) => refuse(state, world, Refusal::NoMemory),
+    }
+}
+
+/// Says what the trace in a file is.
+fn judge_file<W: Outside>(
+    alloc: Global,
+    state: &State,
+    world: &mut W,
+    model: &BoolModel,
+    name: &Text,
+) -> End
+    ensures { Does W.told (JudgesFile model.now name.now)
+        state.now world.old result state.now world.new }
+{
+    match read_file(alloc, state, world, TRACE_LIMIT, name) {
+        Ok(text) => judge_text(alloc, state, world, model, text.as_slice()),
+        Err(fault) => refuse_file(alloc, state, world, TRACE_LIMIT, name, fault),
+    }
+}
+
+/// Executes a trace on a model that was read for it, and keeps the model unless the trace is refused.
+fn execute_on<W: Outside>(
+    alloc: Global,
+    state: &mut State,
+    world: &mut W,
+    name: &Text,
+    model: BoolModel,
+) -> End
+    ensures { Does W.told (Then (JudgesFile model name.now) (Becomes (with_model model)))
+        state.old world.old result state.new world.new }
+{
+    let end = judge_file(alloc, state, world, &model, name);
+    if !state.goes_along(end) {
+        return end;
+    }
+    state.model = Some(model);
+    End::Went
+}
+
+/// Executes a trace on the model that a text is.
+fn execute_on_text<W: Outside>(
+    alloc: Global,
+    state: &mut State,
+    world: &mut W,
+    name: &Text,
+    text: &[u8],
+) -> End
+    requires { length text.now ≤ 4194304 }
+    ensures { Does W.told (ExecutesOnText name.now text.now)
+        state.old world.old result state.new world.new }
+{
+    match BoolModel::read(alloc, text) {
+        Ok(model) => execute_on(alloc, state, world, name, model),
+        Err(fault) => refuse(state, world, model_refusal(fault)),
+    }
+}
+
+/// Executes a trace on the model of a file.
+fn execute_from<W: Outside>(
+    alloc: Global,
+    state: &mut State,
+    world: &mut W,
+    name: &Text,
+    file: &Text,
+) -> End
+    ensures { Does W.told (ExecutesFrom name.now (Some file.now))
+        state.old world.old result state.new world.new }
+{
+    match read_file(alloc, state, world, MODEL_LIMIT, file) {
+        Ok(text) => execute_on_text(alloc, state, world, name, text.as_slice()),
+        Err(fault) => refuse_file(alloc, state, world, MODEL_LIMIT, file, fault),
+    }
+}
+
+/// The file that the variable names, if it has a value.
+fn input_file(alloc: Global, state: &State) -> Result<Option<Text>, AllocError>
+    ensures { IfOk result (λ file. file ≡ input_file state.now) }
+{
+    match state.vars.input_file() {
+        Some(file) => Ok(Some(file.copy(alloc)?)),
+        None => Ok(None),
+    }
+}
+
+/// Executes a trace on the model of the file that is named.
+fn execute_on_named<W: Outside>(
+    alloc: Global,
+    state: &mut State,
+    world: &mut W,
+    name: &Text,
+    file: Option<Text>,
+) -> End
+    ensures { Does W.told (ExecutesFrom name.now file)
+        state.old world.old result state.new world.new }
+{
+    match file {
+        Some(file) => execute_from(alloc, state, world, name, &file),
+        None => refuse(state, world, Refusal::NoModel),
+    }
+}
+
+/// Executes a trace on the model of the variable's file.
+fn execute_named<W: Outside>(alloc: Global, state: &mut State, world: &mut W, name: &Text) -> End
+    ensures { Does W.told (MayLack (ExecutesFrom name.now (input_file state.old)))
+        state.old world.old result state.new world.new }
+{
+    match input_file(alloc, state) {
+        Ok(file) => execute_on_named(alloc, state, world, name, file),
+        Err(AllocError) => refuse(state, world, Refusal::NoMemory),
+    }
+}
+
+/// Executes a trace on the model that is kept, or else on the one of the variable's file.
+fn execute<W: Outside>(alloc: Global, state: &mut State, world: &mut W, name: &Text) -> End
+    ensures { Does W.told (Executes name.now) state.old world.old result state.new world.new }
+{
+    match &state.model {
+        Some(model) => judge_file(alloc, state, world, model, name),
+        None => execute_named(alloc, state, world, name),
+    }
+}
+
+/// Executes the trace in the first of these files.
+fn execute_first<W: Outside>(alloc: Global, state: &mut State, world: &mut W, names: &[Text]) -> End
+    ensures { Does W.told (WithFirst Executes names.now)
+        state.old world.old result state.new world.new }
+{
+    match names {
+        [] => End::Went,
+        [name, ..] => execute(alloc, state, world, name),
+    }
+}
+
+/// Executes a trace, by the options.
+fn execute_by<W: Outside>(alloc: Global, state: &mut State, world: &mut W, given: &Given) -> End
+    ensures { Does W.told (ExecutesIf (is_given given.now 0) given.now.rest)
+        state.old world.old result state.new world.new }
+{
+    if given.values.get(0).is_some() {
+        refuse(state, world, Refusal::NotBuilt)
+    } else {
+        execute_first(alloc, state, world, given.rest.as_slice())
+    }
+}
+
+/// `execute_text_trace [-c] file`
+pub fn do_execute_text_trace<W: Outside>(
+    alloc: Global,
+    state: &mut State,
+    world: &mut W,
+    words: &Words,
+) -> End
+    ensures { Does W.told (DoesTrace words.now) state.old world.old result state.new world.new }
+{
+    match read_options(alloc, &EXECUTE_TEXT_TRACE, words) {
+        Ok(given) => execute_by(alloc, state, world, &given),
+        Err(fault) => refuse(state, world, Refusal::Options(fault)),
+    }
+}

@@ -1,0 +1,6 @@
+use Rattle.shell_settings.specs.Settings.{TakesBack}
+use Rattle.shell_world.proofs.Combining.{with_none}
+use Rattle.shell_settings.proofs.settings.unset_with.Goals as goal
+
+pub returns-in-empty-clause-does : goal.returns-in-empty-clause-does
+returns-in-empty-clause-does g c = with_none TakesBack c.args.words.now _ c.in-empty.len_below

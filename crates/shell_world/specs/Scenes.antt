@@ -1,0 +1,84 @@
+-- What a session has at a moment, what it can see of it, and how a command ends.
+use Rattle.std.specs.Prelude.{ℕ, None, ◌==◌, Bool, true, false, List, [], ◌∷◌, codes}
+use Rattle.std.specs.Option.{option_map_or}
+use Rattle.std.specs.Borrow.{GName}
+use Rattle.outside.specs.Number.{number_of}
+use Rattle.outside.specs.Told.{Disk, Input, Output}
+use Rattle.shell_lang.specs.Keyed.{at_name}
+use Rattle.shell_lang.specs.Known.{defaults}
+use Rattle.shell_lang.specs.Past.{no_past}
+use Rattle.shell_world.specs.declared.end.End.{End}
+use Rattle.shell_world.specs.declared.end.End.TheVariants as ends
+use Rattle.shell_world.specs.declared.end.Next.{Next}
+use Rattle.shell_world.specs.declared.end.Next.TheVariants.{Go, Stop}
+use Rattle.shell_world.specs.declared.state.State.{State}
+
+-- a session that was not told anything yet
+abbrev pub fresh : State
+fresh = record { vars = defaults; aliases = []; past = no_past; model = None }
+
+-- what the four objects outside tell, and which objects they are
+pub record Told : Type 0 where
+  pub input : Input
+  pub disk : Disk
+  pub out : Output
+  pub err : Output
+  pub objects : List GName
+
+-- what a command can find: the session's state, the files and the input
+pub record Scene : Type 0 where
+  pub state : State
+  pub disk : Disk
+  pub input : Input
+
+-- a session, and all that the outside tells
+pub record Moment : Type 0 where
+  pub state : State
+  pub told : Told
+
+abbrev pub at : State → Told → Moment
+at state told = record { state = state; told = told }
+
+abbrev pub scene_of : Moment → Scene
+scene_of moment = record { state = moment.state; disk = moment.told.disk; input = moment.told.input }
+
+-- the variable is set, empty or to 1
+abbrev pub is_set : List ℕ → Bool
+is_set [] = true
+is_set (byte ∷ bytes) = option_map_or (λ n. n == 1) (number_of (byte ∷ bytes)) false
+
+-- a refused command ends the session
+abbrev pub quits : State → Bool
+quits state = option_map_or is_set (at_name state.vars (codes "on_failure_script_quits")) false
+
+abbrev pub after_refusal : Bool → Next
+after_refusal true = Stop 1
+after_refusal false = Go
+
+-- whether the session goes on after such an end, or the status that it stops with
+abbrev pub after : State → End → Next
+after state ends.Went = Go
+after state ends.Refused = after_refusal (quits state)
+after state ends.Quits = Stop 0
+after state ends.Misused = Stop 2
+after state ends.InputFailed = Stop 3
+after state ends.Cut = Stop 4
+after state ends.NoMemory = Stop 5
+
+-- the next command of a line follows
+abbrev pub goes_along : State → End → Bool
+goes_along state ends.Went = true
+goes_along state ends.Refused = false
+goes_along state ends.Quits = false
+goes_along state ends.Misused = false
+goes_along state ends.InputFailed = false
+goes_along state ends.Cut = false
+goes_along state ends.NoMemory = false
+
+abbrev pub is_go : Next → Bool
+is_go Go = true
+is_go (Stop status) = false
+
+-- the next line follows
+abbrev pub goes_on : State → End → Bool
+goes_on state end = is_go (after state end)

@@ -1,0 +1,26 @@
+#![tactic(auto)]
+//! What a session is made of: what it keeps, what it sees of the outside, what happens in it, and
+//! what is written of that.
+//!
+//! Each command of the shell is a process: a relation between the scene before, the events that it
+//! tells, its end and the scene after (`specs/Processes.antt`). `Does` says that code performed a
+//! process, and that each event was written as it came (`specs/Written.antt`). The calls here are
+//! the steps that commands are made of, each with such a clause.
+
+mod end;
+mod event;
+mod reading;
+mod refusal;
+mod state;
+mod telling;
+mod words;
+mod world;
+
+pub use end::{End, Next};
+pub use event::{Event, LogEvent, SettingsEvent, ShellEvent, Side, TraceEvent};
+pub use reading::{read_file, read_line, refuse_file, store_file, write_file};
+pub use refusal::Refusal;
+pub use state::State;
+pub use telling::{end_saying, lack_memory, refuse, say, say_if};
+pub use words::join;
+pub use world::{Outside, World};

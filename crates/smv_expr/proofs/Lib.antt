@@ -1,0 +1,3 @@
+pub mod Resumed
+pub mod Paths
+pub mod FormulaResumed

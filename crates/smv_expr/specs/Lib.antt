@@ -1,0 +1,4 @@
+pub mod Part
+pub mod Pending
+pub mod FormulaPart
+pub mod FormulaPending

@@ -1,0 +1,5 @@
+pub mod Whole
+pub mod Tables
+pub mod Ahead
+pub mod Rests
+pub mod Groups

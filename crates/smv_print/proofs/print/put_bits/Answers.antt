@@ -1,0 +1,17 @@
+use Rattle.smv_print.proofs.Inks.{stops_cons, returned, prints_cons}
+use Rattle.smv_print.proofs.print.put_bits.Goals as goal
+
+pub returns-in_err-put_mark : goal.returns-in_err-put_mark
+returns-in_err-put_mark g c = returned _ c.from_residual.result c.from_residual.ensures.1 (stops_cons _ c.in_err-put_mark.ensures)
+
+pub returns-in_err-put_number : goal.returns-in_err-put_number
+returns-in_err-put_number g c = returned _ c.from_residual-in_err-put_number.result c.from_residual-in_err-put_number.ensures.1 (prints_cons c.in_ok-put_mark.ensures (stops_cons _ c.in_err-put_number.ensures))
+
+pub returns-in_err-put_mark-2 : goal.returns-in_err-put_mark-2
+returns-in_err-put_mark-2 g c = returned _ c.from_residual-in_err-put_mark-2.result c.from_residual-in_err-put_mark-2.ensures.1 (prints_cons c.in_ok-put_mark.ensures (prints_cons c.in_ok-put_number.ensures (stops_cons _ c.in_err-put_mark-2.ensures)))
+
+pub returns-in_err-put_number-2 : goal.returns-in_err-put_number-2
+returns-in_err-put_number-2 g c = returned _ c.from_residual-in_err-put_number-2.result c.from_residual-in_err-put_number-2.ensures.1 (prints_cons c.in_ok-put_mark.ensures (prints_cons c.in_ok-put_number.ensures (prints_cons c.in_ok-put_mark-2.ensures (stops_cons _ c.in_err-put_number-2.ensures))))
+
+pub returns : goal.returns
+returns g c = prints_cons c.in_ok-put_mark.ensures (prints_cons c.in_ok-put_number.ensures (prints_cons c.in_ok-put_mark-2.ensures (prints_cons c.in_ok-put_number-2.ensures (c.put_mark-3.ensures))))

@@ -1,0 +1,11 @@
+pub mod Equations
+pub mod Loops
+pub mod Tells
+pub mod Firsts
+pub mod Ranges
+pub mod Sound
+pub mod Complete
+pub mod Reached
+pub mod Reach
+pub mod DeepFronts
+pub mod HeldRanges

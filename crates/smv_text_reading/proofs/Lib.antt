@@ -1,0 +1,14 @@
+pub mod FormulaEquations
+pub mod FormulaSound
+pub mod FormulaWhole
+pub mod FormulaComplete
+pub mod FormulaReach
+pub mod FormulaFronts
+pub mod FormulaRests
+pub mod Pieces
+pub mod RuleFronts
+pub mod RuleSound
+pub mod RuleReach
+pub mod Deciding
+pub mod Judging
+pub mod TextVerdicts

@@ -1,0 +1,4 @@
+pub mod Verdicts
+pub mod FormulaReading
+pub mod RuleReading
+pub mod TextReading

@@ -1,0 +1,5 @@
+pub mod Marks
+pub mod LeftOut
+pub mod Tokens
+pub mod Scans
+pub mod Numbers
