@@ -41,7 +41,7 @@ fn shown_words(alloc: Global, words: &[Text]) -> Result<Text, AllocError> {
     Ok(text)
 }
 
-// The first names of the variables and of the aliases.
+// The names of the variables, and behind them those of the aliases.
 fn shown_names(alloc: Global, shell: &Shell) -> Result<Text, AllocError> {
     let mut text = Text::new(alloc);
     for (name, _) in shell.vars.entries().iter() {
@@ -207,7 +207,7 @@ const LINES: [(&str, &str); 58] = [
     ("unset x; p $x", ";632 x is not set;"),
     (
         "names",
-        "bmc_length (e)bmc_loopback (nothing)default_simulation_steps (one)default_trace_plugin (two)on_failure_script_quits shown_states ;",
+        "bmc_length bmc_loopback default_simulation_steps default_trace_plugin on_failure_script_quits shown_states (e)(nothing)(one)(two);",
     ),
     // Earlier lines.
     ("!5", "[echo][a;b][10];"),
