@@ -1,7 +1,7 @@
 use itoa::Buffer;
 use smv_parse::{ParseFault, parse_model};
 use smv_tree::{
-    Expr, Formula, Item, Kind, Module, Moment, Name, Place, Section, Ty, TypeSyntax, Value,
+    Expr, Formula, Item, Kind, Module, Moment, Name, Place, Program, Section, Ty, TypeSyntax, Value,
 };
 use std::alloc::{AllocError, Global};
 use std::test::Fail;
@@ -171,26 +171,35 @@ fn put_module(out: &mut Vec<u8>, module: &Module) -> Result<(), AllocError> {
     Ok(())
 }
 
-/// The program of a text, in words and columns; or the column at which it is none, behind `at`, or its
-/// end.
+/// Writes a program.
+fn put_program(out: &mut Vec<u8>, program: &Program) -> Result<(), AllocError> {
+    for module in &program.modules {
+        put_module(out, module)?;
+    }
+    Ok(())
+}
+
+/// Writes the column at which a text is no program, behind `at`, or that it ends too early.
+fn put_fault(out: &mut Vec<u8>, fault: &ParseFault) -> Result<(), AllocError> {
+    match fault {
+        ParseFault::Unexpected(place) => {
+            put(out, b"at")?;
+            put_number(out, i64::from(place.column))
+        }
+        ParseFault::End(_) => put(out, b"end"),
+        _ => put(out, b"fault"),
+    }
+}
+
+/// What is read of a text, in words and columns: its program, or its fault.
 fn seen(alloc: Global, text: &[u8]) -> Result<Vec<u8>, AllocError> {
     let mut out = Vec::new(alloc);
     if text.len() > 4194304 {
         return Ok(out);
     }
     match parse_model(alloc, text) {
-        Ok(program) => {
-            for module in &program.modules {
-                put_module(&mut out, module)?;
-            }
-        }
-        Err(ParseFault::Unexpected(place)) => {
-            put(&mut out, b"at")?;
-            put_number(&mut out, i64::from(place.column))?;
-        }
-        Err(ParseFault::End(_)) => put(&mut out, b"end")?,
-        Err(ParseFault::NoMemory(error)) => return Err(error),
-        Err(_) => put(&mut out, b"fault")?,
+        Ok(program) => put_program(&mut out, &program)?,
+        Err(fault) => put_fault(&mut out, &fault)?,
     }
     Ok(out)
 }
