@@ -2,3 +2,4 @@ pub mod Rowwise
 pub mod Truth
 pub mod Normals
 pub mod Steps
+pub mod Drafting

@@ -1,0 +1,16 @@
+use Rattle.std.proofs.Common.{◌≡◌, length, rules, arith}
+use Rattle.std.proofs.lemmas.Grind.{common_steps}
+use Rattle.ltl_form.specs.Numbered.{claim_of}
+use Rattle.ltl_form.specs.Sizes.{nodes_of_one}
+use Rattle.ltl_form.proofs.Drafting.{one_bound, plain_bound}
+use Rattle.ltl_form.proofs.normalize.to_nnf.Goals as goal
+
+pub returns-clause-linear : goal.returns-clause-linear
+returns-clause-linear c = λ names.
+    let count : length c.finish.result ≡ nodes_of_one (claim_of names c.args.f.now) = first_of (search rules, grind (arith, common_steps)) in
+    omega (arith, count, one_bound (claim_of names c.args.f.now))
+
+pub returns-clause-plain : goal.returns-clause-plain
+returns-clause-plain c = λ names none.
+    let count : length c.finish.result ≡ nodes_of_one (claim_of names c.args.f.now) = first_of (search rules, grind (arith, common_steps)) in
+    omega (arith, count, plain_bound (claim_of names c.args.f.now) none)
