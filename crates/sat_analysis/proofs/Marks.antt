@@ -14,9 +14,6 @@ use Rattle.sat_trail.specs.declared.trail.Entry.{Entry}
 pub set_marked : (seen : List Bool) (v : ℕ) → v < length seen → IsMarked (set seen v true) v
 set_marked seen v h = get_or-set_same seen v true false h
 
-pub unset_marked : (seen : List Bool) (v : ℕ) → v < length seen → is_marked (set seen v false) v ≡ false
-unset_marked seen v h = get_or-set_same seen v false false h
-
 pub other_marked : (seen : List Bool) (v w : ℕ) (b : Bool) → w ≢ v → is_marked (set seen v b) w ≡ is_marked seen w
 other_marked seen v w b ne = get_or-set_other seen v w b false ne
 

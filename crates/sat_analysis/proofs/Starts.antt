@@ -24,9 +24,6 @@ bottom_whole entries =
     let none : length entries - length entries ≡ 0 = omega arith in
     ap (λ (n : ℕ). drop n entries) none
 
-pub bottom_none : (entries : List Entry) → bottom 0 entries ≡ []
-bottom_none entries = drop_all (length entries - 0) entries (omega arith)
-
 no_lits : (entries : List Entry) → AllByRecursion (λ e. AllByRecursion {X = Literal} (λ l. l.var ≢ e.literal.var) []) entries
 no_lits [] = tt
 no_lits (e ∷ entries) = (tt, no_lits entries)

@@ -14,9 +14,6 @@ use Rattle.sat_log.specs.declared.line.LineKind.{LineKind}
 use Rattle.sat_log.specs.declared.line.LineKind.TheVariants.{Original, Conflict, Final}
 use Rattle.sat_log.specs.declared.line.LogLine.{LogLine}
 
-clause_of : Option LogLine → Option (List Literal)
-clause_of line = option_and_then (λ (l : LogLine). hinted l.kind l.lits) line
-
 hinted_lits : (kind : LineKind) (lits c : List Literal) → hinted kind lits ≡ Some c → lits ≡ c
 hinted_lits Original lits c e = cc
 hinted_lits Conflict lits c e = cc
