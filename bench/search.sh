@@ -10,11 +10,12 @@ top=$(cd "$(dirname "$0")/.." && pwd)
 dir=$(mktemp -d)
 trap 'rm -rf "$dir"' EXIT
 mkdir -p "$dir/crates"
-for crate in sat_log sat_core; do
+crates='sat_log sat_trail sat_analysis sat_propagation sat_core'
+for crate in $crates; do
     mkdir "$dir/crates/$crate"
     (cd "$top/crates/$crate" && cp -r src specs proofs "$dir/crates/$crate")
 done
-grep -E '^(sat_log|sat_core):' "$top/crates.txt" >"$dir/crates.txt"
+grep -E "^(${crates// /|}):" "$top/crates.txt" >"$dir/crates.txt"
 cd "$dir"
 rt new crates/measure start_io >/dev/null
 echo 'measure: sat_core sat_log' >>crates.txt

@@ -5,7 +5,7 @@ use Rattle.std.specs.List.{AllByRecursion}
 use Rattle.std.proofs.lemmas.List.{append-nil}
 use Rattle.std.proofs.lemmas.Bool.{cases_lt, lt-ltb, le-ltb}
 use Rattle.sat_log.specs.Literal.{Literal, negated}
-use Rattle.sat_log.specs.Clause.{Among, IsUnset, HasDistinctVariables}
+use Rattle.sat_log.specs.Clause.{Among, HasDistinctVariables}
 use Rattle.sat_log.specs.Accepted.{hinted, clauses, Accepts}
 use Rattle.sat_log.specs.Learned.{IsNeeded, IsDrawn, StandsInSome, HasTwoUnset}
 use Rattle.sat_log.specs.Checking.{IsUpTo, AreUpTo}
@@ -14,16 +14,17 @@ use Rattle.sat_log.specs.declared.line.LineKind.TheVariants.{Conflict, Final}
 use Rattle.sat_log.specs.declared.line.LogLine.{LogLine}
 use Rattle.sat_log.proofs.ListLemmas.{All-append}
 use Rattle.sat_log.proofs.LiteralLemmas.{All-among}
-use Rattle.sat_core.specs.Trail.{Trailed, literals, top, before}
-use Rattle.sat_core.specs.Units.{HasCause, AreDecided, IsTrail, IsQuiet, AreQuiet, MissesNoUnit}
-use Rattle.sat_core.specs.Analysis.{Analyzed, IsAnalysis, IsAsserting, IsAsserted, AreNegationsOf}
-use Rattle.sat_core.specs.Search.{KeepsSearch, AreAmong, AskedFirst, AddsLearned, AddsFinal, IsJump}
-use Rattle.sat_core.proofs.Logs.{named_up_to, clauses_push}
-use Rattle.sat_core.proofs.Trails.{consistent}
-use Rattle.sat_core.proofs.Walks.{All-map, finish, finish_clear}
-use Rattle.sat_core.proofs.Levels.{among_earlier, trail_distinct, top_most, All-before, before_lower, unset_before}
-use Rattle.sat_core.proofs.Searches.{trail_stays}
-use Rattle.sat_core.specs.declared.trail.Entry.{Entry}
+use Rattle.sat_trail.specs.Trail.{Trailed, literals, top, before}
+use Rattle.sat_trail.specs.Units.{HasCause, AreDecided, IsTrail, IsQuiet, AreQuiet, MissesNoUnit}
+use Rattle.sat_analysis.specs.Analysis.{Analyzed, IsAnalysis, IsAsserting, IsAsserted, AreNegationsOf, IsJump}
+use Rattle.sat_core.specs.Search.{KeepsSearch, AreAmong, AskedFirst, AddsLearned, AddsFinal}
+use Rattle.sat_trail.proofs.Logs.{named_up_to, clauses_push}
+use Rattle.sat_trail.proofs.Trails.{consistent}
+use Rattle.sat_trail.proofs.Lists.{All-map}
+use Rattle.sat_analysis.proofs.Walks.{finish, finish_clear}
+use Rattle.sat_trail.proofs.Levels.{among_earlier, trail_distinct, top_most, All-before, before_lower, unset_before, before_trail, before_before, top_lower, unset_earlier}
+use Rattle.sat_trail.proofs.Growth.{trail_stays}
+use Rattle.sat_trail.specs.declared.trail.Entry.{Entry}
 
 -- The literals of a line exist, since they stand in clauses of the log.
 
@@ -34,41 +35,6 @@ stands_up_to n log (id ∷ hints) l up (inr later) = stands_up_to n log hints l 
 
 pub drawn_up_to : (n : ℕ) (log : List LogLine) (a : Analyzed) → AreUpTo n log → IsAnalysis log [] a → IsUpTo n a.lits
 drawn_up_to n log a up h = All-map (StandsInSome log a.hints) (λ l. l.var ≤ n) a.lits (λ l s. stands_up_to n log a.hints l up s) h.lits_drawn
-
--- The trail before a level.
-
-pub before_trail : (log : List LogLine) (level : ℕ) (entries : List Entry) → IsTrail log entries → IsTrail log (before level entries)
-before_trail log level [] t = tt
-before_trail log level (e ∷ entries) t = by_level (ltb e.level level) (before_trail log level entries t.1)
-  where
-    by_level : (b : Bool) → IsTrail log (before level entries) → IsTrail log (cond b (e ∷ entries) (before level entries))
-    by_level true rest = t
-    by_level false rest = rest
-
-pub before_before : (low high : ℕ) (entries : List Entry) → low ≤ high → before low (before high entries) ≡ before low entries
-before_before low high [] h = refl
-before_before low high (e ∷ entries) h = by_level (cases_lt e.level high) (before_before low high entries h)
-  where
-    by_level : (e.level < high) ⊎ (high ≤ e.level) → before low (before high entries) ≡ before low entries → before low (before high (e ∷ entries)) ≡ before low (e ∷ entries)
-    by_level (inl k) rest =
-        ap (λ (b : Bool). before low (cond b (e ∷ entries) (before high entries))) (lt-ltb e.level high k)
-    by_level (inr k) rest =
-        ap (λ (b : Bool). before low (cond b (e ∷ entries) (before high entries))) (le-ltb e.level high k) ∙ rest ∙ sym (ap (λ (b : Bool). cond b (e ∷ entries) (before low entries)) (le-ltb e.level low (omega arith)))
-
-pub top_lower : (level : ℕ) (entries : List Entry) → AllByRecursion (λ f. f.level < level + 1) entries → top entries ≤ level
-top_lower level [] h = omega arith
-top_lower level (e ∷ entries) h =
-    let first = h.0 in
-    omega arith
-
--- what is unset before a level is so before an earlier one
-unset_earlier : (low high : ℕ) (entries : List Entry) (l : Literal) → low ≤ high → IsUnset (literals (before high entries)) l → IsUnset (literals (before low entries)) l
-unset_earlier low high entries l h u =
-    ((λ m. u.0 (inside l m)), (λ m. u.1 (inside (negated l) m)))
-  where
-    inside : (k : Literal) → Among (literals (before low entries)) k → Among (literals (before high entries)) k
-    inside k m =
-        among_earlier low (before high entries) k (subst (λ (es : List Entry). Among (literals es) k) (sym (before_before low high entries h)) m)
 
 pub asked_before : (want : List Literal) (level : ℕ) (entries : List Entry) → AskedFirst want entries → AskedFirst want (before level entries)
 asked_before want level [] a = tt

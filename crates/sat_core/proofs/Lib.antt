@@ -1,17 +1,6 @@
-pub mod Literals
-pub mod Tables
-pub mod Trails
-pub mod Logs
-pub mod Looks
-pub mod Marks
-pub mod Walks
-pub mod Levels
-pub mod Visits
-pub mod Starts
 pub mod Searches
 pub mod Learning
 pub mod Meanings
 pub mod Steps
 pub mod Runs
 pub mod Rests
-pub mod WatchRules

@@ -10,9 +10,9 @@ use Rattle.sat_log.specs.declared.line.LineKind.{LineKind}
 use Rattle.sat_log.specs.declared.line.LineKind.TheVariants.{Original, Conflict, Final}
 use Rattle.sat_log.specs.declared.line.LogLine.{LogLine}
 use Rattle.sat_log.proofs.LiteralLemmas.{All-among}
-use Rattle.sat_core.specs.Assignment.{AreTrue}
+use Rattle.sat_trail.specs.Assignment.{AreTrue}
 use Rattle.sat_core.specs.Gained.{AreLearned}
-use Rattle.sat_core.specs.Analysis.{AreNegationsOf}
+use Rattle.sat_analysis.specs.Analysis.{AreNegationsOf}
 
 -- learned lines are fresh
 pub all_fresh : ((before : List (List Literal)) (c : List Literal) → IsNeeded before c → IsFresh before c) → (before lines : List LogLine) → AreLearned before lines → AllFresh before lines

@@ -19,7 +19,7 @@ use Rattle.sat_core.specs.Assignment.{HasNoSolution}
 use Rattle.sat_core.specs.Verdicts.{IsBelow, IsWithin, IfNo}
 use Rattle.sat_core.specs.declared.verdict.Verdict.{Verdict}
 use Rattle.sat_core.specs.declared.verdict.Verdict.TheVariants.{Yes, No, Spent}
-use Rattle.sat_core.specs.Trail.{places}
+use Rattle.sat_trail.specs.Trail.{places}
 use Rattle.sat_core.specs.Search.{Searched, AddsLearned, AddsFinal, StepsTo}
 use Rattle.sat_core.specs.declared.search.Step.{Step}
 use Rattle.sat_core.specs.declared.search.Step.TheVariants.{Learned, Decided}

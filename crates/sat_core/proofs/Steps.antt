@@ -11,16 +11,16 @@ use Rattle.sat_log.specs.declared.line.LineKind.{LineKind}
 use Rattle.sat_log.specs.declared.line.LineKind.TheVariants.{Original, Conflict, Final}
 use Rattle.sat_log.specs.declared.line.LogLine.{LogLine}
 use Rattle.sat_log.proofs.LiteralLemmas.{All-among}
-use Rattle.sat_core.specs.Assignment.{assignment, AreTrue, IsSolution}
-use Rattle.sat_core.specs.Trail.{Trailed, literals, top, before, AreAllSet}
-use Rattle.sat_core.specs.Units.{HasCause, IsTrail, AddsImplied, IsQuiet, AreQuiet, MissesNoUnit}
-use Rattle.sat_core.specs.Analysis.{Analyzed}
+use Rattle.sat_trail.specs.Assignment.{assignment, AreTrue}
+use Rattle.sat_core.specs.Assignment.{IsSolution}
+use Rattle.sat_trail.specs.Trail.{Trailed, literals, top, before, AreAllSet}
+use Rattle.sat_trail.specs.Units.{HasCause, IsTrail, AddsImplied, IsQuiet, AreQuiet, MissesNoUnit}
+use Rattle.sat_analysis.specs.Analysis.{Analyzed}
 use Rattle.sat_core.specs.Search.{KeepsSearch, AreAmong, AskedFirst}
-use Rattle.sat_core.proofs.Walks.{All-map, All-both}
-use Rattle.sat_core.proofs.Levels.{before_lower, top_most}
-use Rattle.sat_core.proofs.Learning.{before_trail, top_lower}
+use Rattle.sat_trail.proofs.Lists.{All-map, All-both}
+use Rattle.sat_trail.proofs.Levels.{before_lower, top_most, before_trail, top_lower}
 use Rattle.sat_core.proofs.Meanings.{clause_true}
-use Rattle.sat_core.specs.declared.trail.Entry.{Entry}
+use Rattle.sat_trail.specs.declared.trail.Entry.{Entry}
 
 -- Propagation.
 

@@ -3,9 +3,4 @@ pub mod Assignment
 pub mod Gained
 pub mod Verdicts
 pub mod Gains
-pub mod Trail
-pub mod Units
-pub mod Passes
-pub mod Analysis
 pub mod Search
-pub mod WatchRule

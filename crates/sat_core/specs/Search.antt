@@ -10,10 +10,10 @@ use Rattle.sat_log.specs.declared.line.LineKind.TheVariants.{Conflict, Final}
 use Rattle.sat_log.specs.declared.line.LogLine.{LogLine}
 use Rattle.sat_core.specs.Assignment.{IsSolution}
 use Rattle.sat_core.specs.Gained.{AreLearned}
-use Rattle.sat_core.specs.Trail.{Trailed, literals, top, places}
-use Rattle.sat_core.specs.Units.{IsTrail, MissesNoUnit}
-use Rattle.sat_core.specs.Analysis.{Analyzed, IsUnmarked, AreNegationsOf}
-use Rattle.sat_core.specs.declared.trail.Entry.{Entry}
+use Rattle.sat_trail.specs.Trail.{Trailed, literals, top, places}
+use Rattle.sat_trail.specs.Units.{IsTrail, MissesNoUnit}
+use Rattle.sat_analysis.specs.Analysis.{Analyzed, IsUnmarked, AreNegationsOf}
+use Rattle.sat_trail.specs.declared.trail.Entry.{Entry}
 use Rattle.sat_core.specs.declared.decide.Decision.{Decision}
 use Rattle.sat_core.specs.declared.search.Step.{Step}
 use Rattle.sat_core.specs.declared.search.Step.TheVariants.{Learned, Decided, Yes, No}
@@ -62,12 +62,6 @@ pub record AddsLearned (old new : List LogLine) : Type 0 where
   pub kind : line.kind ≡ Conflict
   pub needed : IsNeeded (clauses old) line.lits
   pub drawn : IsDrawn old line
-
--- the level of the clause's second literal, or 0 where there is none
-abbrev pub IsJump : List Entry → List Literal → ℕ → Type 0
-IsJump entries [] level = Unit {0}
-IsJump entries (u ∷ []) level = level ≡ 0
-IsJump entries (u ∷ o ∷ others) level = AllByRecursion (λ e. e.literal.var ≡ o.var → e.level ≡ level) entries
 
 -- The log gained one final line, over negations of what is wanted.
 pub record AddsFinal (want : List Literal) (old new : List LogLine) : Type 0 where

@@ -24,13 +24,6 @@ IfNo (Ok (No id)) P = P id
 IfNo (Ok (Spent n)) P = Unit {0}
 IfNo (Err e) P = Unit {0}
 
--- what holds of the number of a Spent
-abbrev pub IfSpent : {E : Type 0} → Result Verdict E → (ℕ → Type 0) → Type 0
-IfSpent (Ok (Yes bits)) P = Unit {0}
-IfSpent (Ok (No id)) P = Unit {0}
-IfSpent (Ok (Spent n)) P = P n
-IfSpent (Err e) P = Unit {0}
-
 -- no more conflicts than the budget
 abbrev pub IsWithin : Budget → ℕ → Type 0
 IsWithin Unset n = Unit {0}

@@ -4,13 +4,13 @@ ghost use Rattle.std.specs.Prelude.{◌≡◌, ◌≢◌, ◌<◌, ◌≤◌, le
 ghost use Rattle.sat_log.specs.Clause.{Among};
 ghost use Rattle.sat_log.specs.Accepted.{clauses};
 ghost use Rattle.sat_log.specs.Checking.{IsUpTo};
-ghost use Rattle.sat_core.specs.Trail.{literals, AreAllSet, places};
-ghost use Rattle.sat_core.specs.Units.{AreQuiet};
+ghost use Rattle.sat_trail.specs.Trail.{literals, AreAllSet, places};
+ghost use Rattle.sat_trail.specs.Units.{AreQuiet};
 ghost use Rattle.sat_core.specs.Search.{AreAmong, AskedFirst, IsDecided};
 
 use crate::search::Search;
-use crate::trail::Trail;
 use sat_log::SLit;
+use sat_trail::Trail;
 
 /// What comes of looking for a decision.
 #[derive(Clone, Copy, Debug)]

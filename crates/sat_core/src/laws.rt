@@ -6,13 +6,9 @@ ghost use Rattle.sat_log.specs.Accepted.{IsLog, Accepts};
 ghost use Rattle.sat_log.specs.Checking.{AreUpTo};
 ghost use Rattle.sat_log.specs.Learned.{AllFresh};
 ghost use Rattle.sat_log.specs.declared.line.LogLine.{LogLine};
-ghost use Rattle.sat_core.specs.Analysis.{AreNegationsOf};
+ghost use Rattle.sat_analysis.specs.Analysis.{AreNegationsOf};
 ghost use Rattle.sat_core.specs.Assignment.{HasNoSolution};
 ghost use Rattle.sat_core.specs.Gained.{gained, conflicts, IsLonger, AreLearned};
-ghost use Rattle.sat_core.specs.Trail.{literals, before};
-ghost use Rattle.sat_core.specs.Units.{AreQuiet};
-ghost use Rattle.sat_core.specs.WatchRule.{KeepsWatchRule};
-ghost use Rattle.sat_core.specs.declared.trail.Entry.{Entry};
 
 use sat_log::laws::{accepted_line_is_implied, fresh_lines_are_few, needed_line_is_fresh};
 
@@ -41,17 +37,3 @@ pub fn final_line_refutes()
 {
     accepted_line_is_implied();
 }
-
-/// Where the watch rule holds, no clause is unit or false: each is true, or two of its literals are unset.
-pub fn watch_rule_misses_no_unit()
-    ensures { (most level : ℕ) (entries : List Entry) (cs : List (List Literal)) → level ≤ most →
-        KeepsWatchRule most entries cs → AreQuiet (literals (before level entries)) cs }
-{}
-
-/// A backjump to a level below the last one of which the rule is known leaves a trail in which it holds everywhere: what stays
-/// set became so no later than what is taken back.
-pub fn backjump_keeps_watch_rule()
-    ensures { (most level any : ℕ) (entries : List Entry) (cs : List (List Literal)) →
-        level + 1 ≤ most → KeepsWatchRule most entries cs →
-        KeepsWatchRule any (before (level + 1) entries) cs }
-{}

@@ -5,13 +5,13 @@ ghost use Rattle.sat_log.specs.Literal.{Literal, negated};
 ghost use Rattle.sat_log.specs.Clause.{Among, HasDistinctVariables};
 ghost use Rattle.sat_log.specs.Accepted.{IsLog, Accepts};
 ghost use Rattle.sat_log.specs.declared.line.LogLine.{LogLine};
-ghost use Rattle.sat_core.specs.Trail.{literals, top};
-ghost use Rattle.sat_core.specs.Units.{IsConflict};
-ghost use Rattle.sat_core.specs.Analysis.{IsAnalysis, IsAsserted};
+ghost use Rattle.sat_trail.specs.Trail.{literals, top};
+ghost use Rattle.sat_trail.specs.Units.{IsConflict};
+ghost use Rattle.sat_analysis.specs.Analysis.{IsAnalysis, IsAsserted};
 ghost use Rattle.sat_core.specs.Search.{AskedFirst, AddsLearned, AddsFinal};
 
-use crate::analysis::Analysis;
 use crate::search::Search;
+use sat_analysis::Analysis;
 use sat_log::{AppendFault, LineKind, Log, LogLine, SLit};
 use std::alloc::{AllocError, Global};
 

@@ -5,17 +5,13 @@
 //! learns is a line of the log that follows from those before it.
 #![tactic(auto)]
 
-mod analysis;
-mod analyze;
 mod budget;
 mod decide;
 pub mod laws;
 mod learn;
-mod propagate;
 mod sbits;
 mod search;
 mod solver;
-mod trail;
 mod verdict;
 
 pub use budget::Budget;

@@ -1,5 +1,5 @@
 ghost use Rattle.std.specs.Prelude.{◌≡◌, ◌≤◌, length};
-ghost use Rattle.sat_core.specs.Assignment.{assignment};
+ghost use Rattle.sat_trail.specs.Assignment.{assignment};
 
 use std::marker::Model;
 

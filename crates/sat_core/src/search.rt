@@ -7,21 +7,22 @@ ghost use Rattle.sat_log.specs.Clause.{HasDistinctVariables};
 ghost use Rattle.sat_log.specs.Accepted.{IsLog, clauses};
 ghost use Rattle.sat_log.specs.Checking.{IsUpTo, AreUpTo};
 ghost use Rattle.sat_log.specs.Kept.{original, AreProper};
-ghost use Rattle.sat_core.specs.Assignment.{assignment, AreTrue, IsSolution, HasNoSolution};
+ghost use Rattle.sat_trail.specs.Assignment.{assignment, AreTrue};
+ghost use Rattle.sat_core.specs.Assignment.{IsSolution, HasNoSolution};
 ghost use Rattle.sat_core.specs.Gained.{gained, HasNoOriginal};
 ghost use Rattle.sat_core.specs.Gains.{outcome, Gains};
 ghost use Rattle.sat_core.specs.Verdicts.{IfYes, IfNo};
-ghost use Rattle.sat_core.specs.Trail.{literals, top};
-ghost use Rattle.sat_core.specs.Units.{IsConflict, AreQuiet};
+ghost use Rattle.sat_trail.specs.Trail.{literals, top};
+ghost use Rattle.sat_trail.specs.Units.{IsConflict, AreQuiet};
 ghost use Rattle.sat_core.specs.Search.{AskedFirst, StepsTo};
 
-use crate::analysis::Analysis;
 use crate::decide::Decision;
 use crate::laws::{final_line_refutes, learned_lines_are_few, learned_lines_are_fresh};
-use crate::propagate::propagate;
-use crate::trail::Trail;
 use crate::{Budget, SBits, Verdict};
+use sat_analysis::Analysis;
 use sat_log::{Log, SLit, SLits};
+use sat_propagation::propagate;
+use sat_trail::Trail;
 use std::alloc::{AllocError, Global};
 use std::marker::Model;
 

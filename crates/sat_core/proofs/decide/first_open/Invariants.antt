@@ -1,5 +1,5 @@
 use Rattle.std.proofs.Common.{take}
-use Rattle.sat_core.specs.Trail.{literals}
+use Rattle.sat_trail.specs.Trail.{literals}
 use Rattle.sat_core.specs.Search.{AreAmong}
 use Rattle.sat_core.proofs.decide.first_open.Given as goal
 

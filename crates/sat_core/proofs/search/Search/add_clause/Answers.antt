@@ -1,7 +1,7 @@
 use Rattle.std.proofs.Common.{ap, sym, subst, ◌∙◌}
 use Rattle.sat_log.specs.Checking.{IsUpTo}
 use Rattle.sat_log.specs.Kept.{original}
-use Rattle.sat_core.specs.Trail.{top}
+use Rattle.sat_trail.specs.Trail.{top}
 use Rattle.sat_core.specs.Search.{Searched, KeepsSearch}
 use Rattle.sat_core.proofs.Searches.{by_result, keeps_original}
 use Rattle.sat_core.proofs.search.Search.add_clause.Goals as goal

@@ -4,7 +4,7 @@ use Rattle.std.specs.List.{AllByRecursion}
 use Rattle.sat_log.specs.Checking.{IsUpTo}
 use Rattle.sat_log.specs.Kept.{original}
 use Rattle.sat_log.specs.declared.line.LogLine.{LogLine}
-use Rattle.sat_core.specs.Trail.{top}
+use Rattle.sat_trail.specs.Trail.{top}
 use Rattle.sat_core.specs.Search.{Searched, KeepsSearch}
 use Rattle.sat_core.proofs.Searches.{keeps_originals}
 use Rattle.sat_core.proofs.search.Search.add_clauses.Goals as goal

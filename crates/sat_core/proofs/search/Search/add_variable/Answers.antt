@@ -1,5 +1,5 @@
 use Rattle.std.proofs.Common.{◌+◌, ◌<◌, length, refl, arith}
-use Rattle.sat_core.specs.Trail.{Trailed}
+use Rattle.sat_trail.specs.Trail.{Trailed}
 use Rattle.sat_core.specs.Search.{KeepsSearch}
 use Rattle.sat_core.proofs.Searches.{by_added, keeps_variable}
 use Rattle.sat_core.proofs.search.Search.add_variable.Goals as goal

@@ -5,10 +5,11 @@ use Rattle.sat_log.specs.Clause.{Among, IsUnset}
 use Rattle.sat_log.specs.Accepted.{clauses}
 use Rattle.sat_log.specs.Checking.{IsUpTo}
 use Rattle.sat_log.proofs.LiteralLemmas.{All-among}
-use Rattle.sat_core.specs.Trail.{literals}
-use Rattle.sat_core.specs.Units.{AreQuiet}
+use Rattle.sat_trail.specs.Trail.{literals}
+use Rattle.sat_trail.specs.Units.{AreQuiet}
 use Rattle.sat_core.specs.Search.{Searched}
-use Rattle.sat_core.proofs.Searches.{top_length, keeps_decision}
+use Rattle.sat_trail.proofs.Levels.{top_length}
+use Rattle.sat_core.proofs.Searches.{keeps_decision}
 use Rattle.sat_core.proofs.search.Search.decide.Goals as goal
 
 pub decide-requires-clause-level : goal.decide-requires-clause-level

@@ -3,7 +3,7 @@ use Rattle.std.proofs.lemmas.List.{append_cancel_left}
 use Rattle.sat_log.specs.Accepted.{Accepts}
 use Rattle.sat_log.specs.declared.line.LineKind.TheVariants.{Conflict}
 use Rattle.sat_log.specs.declared.line.LogLine.{LogLine}
-use Rattle.sat_core.specs.Trail.{top}
+use Rattle.sat_trail.specs.Trail.{top}
 use Rattle.sat_core.specs.Search.{Searched, KeepsSearch, AskedFirst, AddsLearned}
 use Rattle.sat_core.proofs.Learning.{jump_asserts, drawn_up_to, asked_before, line_accepted, keeps_marks, keeps_learned, adds_learned}
 use Rattle.sat_core.proofs.search.Search.learn.Goals as goal

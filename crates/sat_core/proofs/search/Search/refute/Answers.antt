@@ -1,6 +1,6 @@
 use Rattle.std.proofs.Common.{ap, sym, subst, ◌∙◌}
 use Rattle.sat_log.specs.declared.line.LineKind.TheVariants.{Final}
-use Rattle.sat_core.specs.Trail.{top}
+use Rattle.sat_trail.specs.Trail.{top}
 use Rattle.sat_core.specs.Search.{Searched, KeepsSearch, AddsFinal}
 use Rattle.sat_core.proofs.Searches.{by_result}
 use Rattle.sat_core.proofs.Learning.{decided_none, keeps_marks, keeps_final, adds_final, on_ok}

@@ -2,11 +2,11 @@ use Rattle.std.proofs.Common.{sym, subst}
 use Rattle.sat_log.specs.Literal.{negated}
 use Rattle.sat_log.specs.Clause.{Among}
 use Rattle.sat_log.specs.declared.line.LineKind.TheVariants.{Final}
-use Rattle.sat_core.specs.Trail.{literals}
-use Rattle.sat_core.specs.Units.{AreDecided}
+use Rattle.sat_trail.specs.Trail.{literals}
+use Rattle.sat_trail.specs.Units.{AreDecided}
 use Rattle.sat_core.specs.Search.{Searched, KeepsSearch, AskedFirst, AddsFinal}
-use Rattle.sat_core.proofs.Trails.{consistent}
-use Rattle.sat_core.proofs.Levels.{trail_distinct}
+use Rattle.sat_trail.proofs.Trails.{consistent}
+use Rattle.sat_trail.proofs.Levels.{trail_distinct}
 use Rattle.sat_core.proofs.Searches.{by_result}
 use Rattle.sat_core.proofs.Learning.{decided_wanted, none_negated, keeps_marks, keeps_final, adds_final, on_ok}
 use Rattle.sat_core.proofs.search.Search.refute_wanted.Goals as goal

@@ -1,7 +1,7 @@
 use Rattle.std.proofs.Common.{◌+◌, ap, sym, subst, ◌∙◌}
-use Rattle.sat_core.specs.Trail.{top, before}
+use Rattle.sat_trail.specs.Trail.{top, before}
 use Rattle.sat_core.specs.Search.{AskedFirst}
-use Rattle.sat_core.proofs.Learning.{before_trail}
+use Rattle.sat_trail.proofs.Levels.{before_trail}
 use Rattle.sat_core.proofs.Steps.{reset_top, keeps_reset, asked_zero}
 use Rattle.sat_core.proofs.search.Search.reset.Goals as goal
 

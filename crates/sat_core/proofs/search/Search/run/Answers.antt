@@ -4,7 +4,7 @@ use Rattle.sat_log.specs.declared.line.LogLine.{LogLine}
 use Rattle.sat_core.specs.Gained.{gained, conflicts, HasNoOriginal}
 use Rattle.sat_core.specs.Gains.{found, spent, stopped, Gains}
 use Rattle.sat_core.specs.Verdicts.{IsBelow, IsWithin}
-use Rattle.sat_core.specs.Trail.{places}
+use Rattle.sat_trail.specs.Trail.{places}
 use Rattle.sat_core.specs.Search.{AddsFinal, StepsTo}
 use Rattle.sat_core.specs.declared.search.Step.{Step}
 use Rattle.sat_core.proofs.Runs.{HasLearned, learned_none, within_none, left, all_conflicts, gained_length, none_original, refuted_by, final_no_original, step_gains, step_left, step_within, gains_learned, has_no_final, gains_final, longer_push, final_learned, outcome_err, is_spent}

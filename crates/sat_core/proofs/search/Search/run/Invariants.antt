@@ -3,7 +3,7 @@ use Rattle.sat_log.specs.Accepted.{IsLog}
 use Rattle.sat_log.specs.Checking.{AreUpTo}
 use Rattle.sat_core.specs.Gained.{gained, conflicts}
 use Rattle.sat_core.specs.Verdicts.{IsWithin}
-use Rattle.sat_core.specs.Trail.{places}
+use Rattle.sat_trail.specs.Trail.{places}
 use Rattle.sat_core.specs.Search.{AskedFirst}
 use Rattle.sat_core.proofs.Runs.{HasLearned, left}
 use Rattle.sat_core.proofs.search.Search.run.Given as goal

@@ -2,10 +2,10 @@ use Rattle.std.proofs.Common.{◌≡◌, List, sym, subst, ◌∙◌, refl}
 use Rattle.sat_log.specs.Accepted.{IsLog, clauses}
 use Rattle.sat_log.specs.Checking.{AreUpTo}
 use Rattle.sat_log.specs.declared.line.LogLine.{LogLine}
-use Rattle.sat_core.specs.Trail.{literals, AreAllSet}
-use Rattle.sat_core.specs.Units.{AreQuiet}
+use Rattle.sat_trail.specs.Trail.{literals, AreAllSet}
+use Rattle.sat_trail.specs.Units.{AreQuiet}
 use Rattle.sat_core.specs.Search.{AreAmong, AskedFirst}
-use Rattle.sat_core.specs.declared.trail.Entry.{Entry}
+use Rattle.sat_trail.specs.declared.trail.Entry.{Entry}
 use Rattle.sat_core.proofs.Steps.{solution}
 use Rattle.sat_core.proofs.search.Search.step.Goals as goal
 

@@ -1,0 +1,5 @@
+pub mod Marks
+pub mod Walks
+pub mod Asserting
+pub mod Visits
+pub mod Starts

@@ -1,0 +1,196 @@
+//! Conflict analysis: the walk from a false clause back along the trail.
+
+ghost use Rattle.std.specs.Prelude.{◌≡◌, ◌≢◌, ◌⊎◌, ◌+◌, ◌<◌, ◌≤◌, [], None, Some, List, length, IfSome, IfNone};
+ghost use Rattle.std.specs.List.{AllByRecursion};
+ghost use Rattle.sat_log.specs.Literal.{Literal, negated};
+ghost use Rattle.sat_log.specs.Clause.{Among};
+ghost use Rattle.sat_log.specs.Accepted.{IsLog, clauses};
+ghost use Rattle.sat_log.specs.Checking.{AreUpTo};
+ghost use Rattle.sat_trail.specs.Trail.{literals, top, before, bottom, places};
+ghost use Rattle.sat_trail.specs.Units.{IsTrail, IsReason, IsConflict, AreQuiet, AreDecided};
+ghost use Rattle.sat_analysis.specs.Analysis.{IsUnmarked, marked_at, IsAnalysis, IsAsserting, AreNegationsOf};
+
+use crate::analysis::Analysis;
+use sat_log::{Log, SLit};
+use sat_trail::{Entry, Trail};
+
+/// The clause by which a marked entry is resolved away, if it is not kept: one that is of level 0, or of the level of the
+/// conflict while `left` others of it are marked.
+fn resolvent(entry: &Entry, level: u64, left: usize) -> Option<u64>
+    requires { 1 ≤ level }
+    ensures reason { IfSome result (λ id. entry.now.reason ≡ Some id) }
+    ensures others { IfSome result (λ _. entry.now.level ≡ level → left ≢ 0) }
+    ensures kept { IfNone result ((entry.now.reason ≡ None) ⊎ ((entry.now.level ≢ 0) ×
+        (entry.now.level ≡ level → left ≡ 0))) }
+{
+    if entry.level == 0 || entry.level == level && left > 0 {
+        entry.reason
+    } else {
+        None
+    }
+}
+
+impl Analysis {
+    /// Looks at the entry before which `i` others were made, while `pending` entries of the level are marked. Answers how many
+    /// are then.
+    fn visit(&mut self, log: &Log, trail: &Trail, i: usize, level: u64, pending: usize) -> usize
+        requires log { IsLog log.now }
+        requires trail { IsTrail log.now trail.now.entries }
+        requires exist { AreUpTo trail.now.variables log.now }
+        requires size { trail.now.variables < length self.old.seen }
+        requires inside { i < length trail.now.entries }
+        requires latest { top trail.now.entries ≡ level }
+        requires above { 1 ≤ level }
+        requires state { IsAnalysis log.now (bottom (i + 1) trail.now.entries) self.old }
+        requires counted { pending ≡ marked_at level self.old.seen
+            (bottom (i + 1) trail.now.entries) }
+        requires asserting { IsAsserting level trail.now.entries pending self.old.lits }
+        ensures state { IsAnalysis log.now (bottom i trail.now.entries) self.new }
+        ensures counted { result ≡ marked_at level self.new.seen (bottom i trail.now.entries) }
+        ensures asserting { IsAsserting level trail.now.entries result self.new.lits }
+        ensures size { length self.new.seen ≡ length self.old.seen }
+    {
+        let entry = trail.entry(i);
+        if !self.unmark(entry.literal.var()) {
+            return pending;
+        }
+        let left = if entry.level == level {
+            pending - 1
+        } else {
+            pending
+        };
+        match resolvent(&entry, level, left) {
+            Some(reason) => left + self.resolve(log, trail, reason, level),
+            None => {
+                self.keep(entry.literal.negated());
+                left
+            }
+        }
+    }
+
+    /// The clause of the first unique implication point of a conflict (Marques-Silva and Sakallah 1996), with its hints. The
+    /// literal that it asserts comes first, and then one of the latest level among the others.
+    pub fn analyze(&mut self, log: &Log, trail: &Trail, conflict: u64)
+        requires log { IsLog log.now }
+        requires trail { IsTrail log.now trail.now.entries }
+        requires exist { AreUpTo trail.now.variables log.now }
+        requires size { trail.now.variables < length self.old.seen }
+        requires clear { IsUnmarked self.old.seen }
+        requires conflict { IsConflict log.now (literals trail.now.entries) conflict }
+        requires above { 1 ≤ top trail.now.entries }
+        requires quiet { AreQuiet (literals (before (top trail.now.entries) trail.now.entries))
+            (clauses log.now) }
+        ensures state { IsAnalysis log.now [] self.new }
+        ensures asserting { IsAsserting (top trail.now.entries) trail.now.entries 0 self.new.lits }
+        ensures size { length self.new.seen ≡ length self.old.seen }
+    {
+        self.clear();
+        let level = trail.level();
+        let mut pending = self.resolve(log, trail, conflict, level);
+        for i in (0..trail.len()).rev() {
+            pending = self.visit(log, trail, i, level, pending);
+        }
+    }
+
+    /// Looks at the entry before which `i` others were made: a marked decision is kept, and all else that is marked is
+    /// resolved away.
+    fn trace(&mut self, log: &Log, trail: &Trail, i: usize)
+        requires log { IsLog log.now }
+        requires trail { IsTrail log.now trail.now.entries }
+        requires exist { AreUpTo trail.now.variables log.now }
+        requires size { trail.now.variables < length self.old.seen }
+        requires inside { i < length trail.now.entries }
+        requires state { IsAnalysis log.now (bottom (i + 1) trail.now.entries) self.old }
+        ensures state { IsAnalysis log.now (bottom i trail.now.entries) self.new }
+        ensures kept { (want : List Literal) → AreDecided want trail.now.entries →
+            AreNegationsOf want self.old.lits → AreNegationsOf want self.new.lits }
+        ensures size { length self.new.seen ≡ length self.old.seen }
+    {
+        let entry = trail.entry(i);
+        if !self.unmark(entry.literal.var()) {
+            return;
+        }
+        match entry.reason {
+            Some(reason) => {
+                let _marked = self.resolve(log, trail, reason, 0);
+            }
+            None => self.keep(entry.literal.negated()),
+        }
+    }
+
+    /// The clause over negations of decisions that a conflict leads to, with its hints: at level 0 it has no literal.
+    pub fn refute(&mut self, log: &Log, trail: &Trail, conflict: u64)
+        requires log { IsLog log.now }
+        requires trail { IsTrail log.now trail.now.entries }
+        requires exist { AreUpTo trail.now.variables log.now }
+        requires size { trail.now.variables < length self.old.seen }
+        requires clear { IsUnmarked self.old.seen }
+        requires conflict { IsConflict log.now (literals trail.now.entries) conflict }
+        ensures state { IsAnalysis log.now [] self.new }
+        ensures kept { (want : List Literal) → AreDecided want trail.now.entries →
+            AreNegationsOf want self.new.lits }
+        ensures size { length self.new.seen ≡ length self.old.seen }
+    {
+        self.clear();
+        let _marked = self.resolve(log, trail, conflict, 0);
+        for i in (0..trail.len()).rev() {
+            self.trace(log, trail, i);
+        }
+    }
+
+    /// The same for a literal that is true, by the clause that implied it: the literal is kept too. Before its entry `place`
+    /// others were made.
+    fn refute_from(&mut self, log: &Log, trail: &Trail, literal: SLit, reason: u64, place: usize)
+        requires log { IsLog log.now }
+        requires trail { IsTrail log.now trail.now.entries }
+        requires exist { AreUpTo trail.now.variables log.now }
+        requires size { trail.now.variables < length self.old.seen }
+        requires clear { IsUnmarked self.old.seen }
+        requires inside { place < length trail.now.entries }
+        requires room { length trail.now.entries ≤ places trail.now.variables }
+        requires implied { IsReason log.now
+            (literals (bottom place trail.now.entries)) reason literal }
+        requires true_ { Among (literals trail.now.entries) literal }
+        requires apart { AllByRecursion (λ e. e.literal.var ≢ literal.var)
+            (bottom place trail.now.entries) }
+        ensures state { IsAnalysis log.now [] self.new }
+        ensures kept { (want : List Literal) → AreDecided want trail.now.entries →
+            Among want (negated literal) → AreNegationsOf want self.new.lits }
+        ensures size { length self.new.seen ≡ length self.old.seen }
+    {
+        self.clear();
+        self.keep(literal);
+        let _marked = self.resolve(log, trail, reason, 0);
+        for i in (0..place).rev() {
+            self.trace(log, trail, i);
+        }
+    }
+
+    /// The clause over negations of wanted literals, of which this one is false, with its hints.
+    pub fn refute_wanted(&mut self, log: &Log, trail: &Trail, wanted: SLit)
+        requires log { IsLog log.now }
+        requires trail { IsTrail log.now trail.now.entries }
+        requires exist { AreUpTo trail.now.variables log.now }
+        requires size { trail.now.variables < length self.old.seen }
+        requires clear { IsUnmarked self.old.seen }
+        requires false_ { Among (literals trail.now.entries) (negated wanted) }
+        requires implied { AllByRecursion (λ e. e.reason ≡ None →
+            e.literal ≢ negated wanted) trail.now.entries }
+        ensures state { IsAnalysis log.now [] self.new }
+        ensures kept { (want : List Literal) → AreDecided want trail.now.entries →
+            Among want wanted → AreNegationsOf want self.new.lits }
+        ensures size { length self.new.seen ≡ length self.old.seen }
+    {
+        for place in (0..trail.len()).rev() {
+            let entry = trail.entry(place);
+            if entry.literal.var() != wanted.var() {
+                continue;
+            }
+            match entry.reason {
+                Some(reason) => self.refute_from(log, trail, entry.literal, reason, place),
+                None => {}
+            }
+            return;
+        }
+    }
+}

@@ -1,5 +1,0 @@
-use Rattle.sat_core.specs.Trail.{literals, AreAllSet}
-use Rattle.sat_core.proofs.trail.Trail.unset.Given as goal
-
-abbrev pub invariant-loop-var : goal.invariant-loop-var
-invariant-loop-var l = AreAllSet l.var (literals l.self.entries)

@@ -1,0 +1,11 @@
+use Rattle.std.proofs.Common.{◌+◌, ◌≤◌, length, reverse, arith}
+use Rattle.std.specs.Prelude.{vec_capacity}
+use Rattle.sat_trail.proofs.Tables.{tables_widen}
+use Rattle.sat_trail.proofs.trail.Trail.add_variable.Goals as goal
+
+pub invariant_of-self-2 : goal.invariant_of-self-2
+invariant_of-self-2 c =
+    let t = c.self.inside in
+    let room : length t.truths.items + 2 ≤ vec_capacity c.reserve-4.new.self = omega (arith, c.in_ok-reserve-4.ensures.ok, c.len.ensures, c.reserve.ensures.len, t.truths.ok.0) in
+    rw (c.push_reserved-2.ensures.items, c.push_reserved.ensures.items, c.reserve.ensures.items, c.push_reserved-3.ensures.items, c.reserve-2.ensures.items, c.push_reserved-4.ensures.items, c.reserve-3.ensures.items, c.reserve-4.ensures.items)
+    (tables_widen t.variables t.truths.items t.levels.items t.reasons.items (reverse t.trail.items) (vec_capacity t.trail) (vec_capacity c.reserve-4.new.self) c.self.invariant room)

@@ -1,0 +1,16 @@
+use Rattle.std.proofs.Common.{◌≡◌, ◌<◌, ◌≤◌, length, get_or, subst, sym, ◌∙◌, arith, reverse}
+use Rattle.std.specs.List.{AllByRecursion}
+use Rattle.std.proofs.lemmas.List.{get_or_default}
+use Rattle.sat_trail.specs.Trail.{Trailed}
+use Rattle.sat_trail.proofs.Trails.{levels_of}
+use Rattle.sat_trail.proofs.trail.Trail.level_of.Goals as goal
+
+pub returns : goal.returns
+returns c =
+    let t = c.self.inside in
+    let exists : c.args.var ≤ t.variables = subst (λ (v : Trailed). c.args.var ≤ v.variables) (sym c.self.view_is) c.requires in
+    let size = c.self.invariant.levels_size in
+    let inside : c.args.var < length t.levels.items = omega arith in
+    let read : c.index.result.now ≡ get_or t.levels.items c.args.var 0 =
+    c.index.ensures ∙ get_or_default t.levels.items c.args.var c.index.result.now 0 inside in
+    subst (λ (v : Trailed). AllByRecursion (λ e. e.literal.var ≡ c.args.var → c.index.result.now ≡ e.level) v.entries) c.self.view_is (levels_of t.levels.items t.reasons.items (reverse t.trail.items) c.args.var c.index.result.now read)

@@ -1,0 +1,4 @@
+pub mod Assignment
+pub mod Trail
+pub mod Units
+pub mod WatchRule
