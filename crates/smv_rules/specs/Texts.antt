@@ -1,0 +1,27 @@
+-- What the tokens of whole texts spell by the rules.
+use Rattle.std.specs.Prelude.{ℕ, List, []}
+use Rattle.smv_token.specs.declared.token.Token.{Token}
+use Rattle.smv_grammar.specs.declared.fault.ParseFault.{ParseFault}
+use Rattle.smv_grammar.specs.Explaining.{ExplainsText, SpellsText}
+use Rattle.smv_grammar.specs.Forms.{deepest}
+use Rattle.smv_grammar.specs.Formulas.{outermost}
+use Rattle.smv_rules.specs.Sorts.{Gift, Sort, a_formula}
+use Rattle.smv_rules.specs.Rules.{Rule}
+use Rattle.smv_rules.specs.Formulas.{formula_level}
+use Rattle.smv_rules.specs.Follows.{Follows, Leads, anywhere, at_depth}
+
+-- all tokens are what the rule says
+abbrev pub IsAll : {s : Sort} → Rule s → List Token → Gift s → Type 0
+IsAll {s} r ts x = Follows deepest s r ts [] x
+
+-- what the whole texts are: an expression, a formula, modules
+abbrev pub formula : Rule a_formula
+formula = formula_level outermost
+
+-- the text spells what the rule gives
+abbrev pub SpellsBy : {s : Sort} → Rule s → List ℕ → Gift s → Type 0
+SpellsBy r bytes x = SpellsText (IsAll r) bytes x
+
+-- why a text spells nothing by the rule
+abbrev pub ExplainsBy : {s : Sort} → Rule s → List ℕ → ParseFault → Type 0
+ExplainsBy {s} r bytes f = ExplainsText (IsAll r) (Leads anywhere deepest s r) (Leads at_depth deepest s r) bytes f

@@ -1,0 +1,13 @@
+ghost use Rattle.smv_rules.specs.Expressions.{expr};
+ghost use Rattle.smv_rules.specs.Programs.{program};
+ghost use Rattle.smv_rules.specs.Texts.{formula};
+ghost use Rattle.smv_rules.specs.WholeReading.{Right};
+
+/// The reading of texts by the rules is what the rules say: it gives exactly what a text spells, and
+/// refuses exactly what a text shows, by the rules of expressions, of formulas and of programs.
+#[tactic(auto, using(crate::proofs::Verdicts::expression_right, crate::proofs::Verdicts::formula_right, crate::proofs::Verdicts::program_right))]
+pub fn reading_is_right()
+    ensures expression { Right expr }
+    ensures formula { Right formula }
+    ensures program { Right program }
+{}
