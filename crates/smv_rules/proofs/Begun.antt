@@ -6,7 +6,7 @@ use Rattle.smv_rules.specs.Sorts.{Gift, Sort}
 use Rattle.smv_rules.specs.Rules.{Rule, gives, too_deep, must, may, part, then, again}
 use Rattle.smv_rules.specs.Expressions.{expr, level}
 use Rattle.smv_rules.specs.Formulas.{formula_level}
-use Rattle.smv_rules.specs.Follows.{End, at_depth, Follows, done, has, takes, skips, nests, stays, chains, stops, goes_on, Leads, here, deep_here, past_token, past_taken, past_skipped, in_part, in_other, in_first, past_first, in_next, past_next}
+use Rattle.smv_rules.specs.Follows.{by_token, End, at_depth, Follows, done, has, takes, skips, nests, stays, chains, stops, goes_on, Leads, here, deep_here, past_token, past_taken, past_skipped, in_part, in_other, in_first, past_first, in_next, past_next}
 use Rattle.smv_rules.proofs.Ways.{follows_rest, leads_rest}
 
 -- a rule that takes a token
@@ -38,7 +38,7 @@ takes_late (part s p r) h = absurd h
 takes_late (then z s r f) h = h
 takes_late (again s k f a) h = absurd h
 
-takes_some : {n : ℕ} {s : Sort} {r : Rule s} {ts rest : List Token} {x : Gift s} → Follows n s r ts rest x → Takes r → length rest < length ts
+takes_some : {n : ℕ} {s : Sort} {r : Rule s} {ts rest : List Token} {x : Gift s} → Follows by_token n s r ts rest x → Takes r → length rest < length ts
 takes_some (done n s x ts) h = absurd h
 takes_some (has n s k f t p ts rest x e j) h = let l = rest_length rest ts (follows_rest j) in omega (arith, l)
 takes_some (takes n s k f r t p ts rest x e j) h = let l = rest_length rest ts (follows_rest j) in omega (arith, l)
@@ -50,7 +50,7 @@ takes_some (stops n s k f a ts u) h = absurd h
 takes_some (goes_on n s k f a t p ts us rest b x e j i) h = absurd h
 
 -- where it is too deep, a token was taken
-pub late_some : {e : End} {n : ℕ} {s : Sort} {r : Rule s} {ts rest : List Token} → Leads e n s r ts rest → e ≡ at_depth → Late r → length rest < length ts
+pub late_some : {e : End} {n : ℕ} {s : Sort} {r : Rule s} {ts rest : List Token} → Leads by_token e n s r ts rest → e ≡ at_depth → Late r → length rest < length ts
 late_some (here n s r ts) i h = absurd (cc)
 late_some (deep_here n s ts) i h = absurd h
 late_some (past_token e n s k f t p ts rest q j) i h = let l = rest_length rest ts (leads_rest j) in omega (arith, l)

@@ -8,7 +8,7 @@ use Rattle.smv_grammar.proofs.Rests.{rest_same}
 use Rattle.smv_rules.specs.Sorts.{Sort}
 use Rattle.smv_rules.specs.Rules.{Rule}
 use Rattle.smv_rules.specs.Running.{run}
-use Rattle.smv_rules.specs.Follows.{Follows, Leads, anywhere, at_depth}
+use Rattle.smv_rules.specs.Follows.{by_token, Follows, Leads, anywhere, at_depth}
 use Rattle.smv_rules.proofs.Ways.{follows_leads, follows_rest, leads_passed, leads_rest}
 use Rattle.smv_rules.proofs.Told.{told}
 use Rattle.smv_rules.proofs.Meeting.{Met, follows_read, leads_met}
@@ -22,7 +22,7 @@ unfolding Met
 sunk m out h = record { left = m; is = h; far = omega arith }
 
 -- Where a rule is not too deep before its first token, reading decides it.
-pub rule_decides : (n : ℕ) (s : Sort) (r : Rule s) → ((ts rest : List Token) → Leads at_depth n s r ts rest → length rest < length ts) → Decides (Follows n s r) (Leads anywhere n s r) (Leads at_depth n s r) (run n r)
+pub rule_decides : (n : ℕ) (s : Sort) (r : Rule s) → ((ts rest : List Token) → Leads by_token at_depth n s r ts rest → length rest < length ts) → Decides (Follows by_token n s r) (Leads by_token anywhere n s r) (Leads by_token at_depth n s r) (run n r)
 rule_decides n s r some = record {
   tells = told n r;
   only = λ ts rest x h. follows_read h;

@@ -10,7 +10,7 @@ use Rattle.smv_rules.specs.Sorts.{Gift, Sort}
 use Rattle.smv_rules.specs.Rules.{Part, Rule, gives, too_deep, must, may, part, then, again}
 use Rattle.smv_rules.specs.Table.{table}
 use Rattle.smv_rules.specs.Running.{if_seen, repeated, run}
-use Rattle.smv_rules.specs.Follows.{End, anywhere, at_depth, Follows, done, has, takes, skips, nests, stays, chains, stops, goes_on, Leads, here, deep_here, past_token, past_taken, past_skipped, in_part, in_other, in_first, past_first, in_next, past_next}
+use Rattle.smv_rules.specs.Follows.{by_token, End, anywhere, at_depth, Follows, done, has, takes, skips, nests, stays, chains, stops, goes_on, Leads, here, deep_here, past_token, past_taken, past_skipped, in_part, in_other, in_first, past_first, in_next, past_next}
 use Rattle.smv_rules.proofs.Ways.{follows_rest, leads_rest}
 use Rattle.smv_rules.proofs.Told.{Tells, told}
 
@@ -97,7 +97,7 @@ unfolding run
 deep_read n s ts = refl
 
 -- what a rule says is read
-pub follows_read : {n : ℕ} {s : Sort} {r : Rule s} {ts rest : List Token} {x : Gift s} → Follows n s r ts rest x → run n r ts ≡ Ok (x, rest)
+pub follows_read : {n : ℕ} {s : Sort} {r : Rule s} {ts rest : List Token} {x : Gift s} → Follows by_token n s r ts rest x → run n r ts ≡ Ok (x, rest)
 follows_read (done n s x ts) = done_read n s x ts
 follows_read (has n s k f t p ts rest x e h) = must_read n s k f t p ts e ∙ follows_read h
 follows_read (takes n s k f r t p ts rest x e h) = take_read n s k f r t p ts e ∙ follows_read h
@@ -141,7 +141,7 @@ unfolding Met
 deep_met n s ts = deep_read n s ts
 
 -- reading meets each place to which a rule leads
-pub leads_met : {e : End} {n : ℕ} {s : Sort} {r : Rule s} {ts rest : List Token} → Leads e n s r ts rest → Met e (length rest) (run n r ts)
+pub leads_met : {e : End} {n : ℕ} {s : Sort} {r : Rule s} {ts rest : List Token} → Leads by_token e n s r ts rest → Met e (length rest) (run n r ts)
 leads_met (here n s r ts) = here_met n s r ts
 leads_met (deep_here n s ts) = deep_met n s ts
 leads_met (past_token e n s k f t p ts rest i h) = met_as e (length rest) (run n (must s k f) (t ∷ ts)) (run n (f p) ts) (must_read n s k f t p ts i) (leads_met h)

@@ -10,15 +10,15 @@ use Rattle.smv_rules.specs.Sorts.{Gift, Sort}
 use Rattle.smv_rules.specs.Rules.{Rule, gives, too_deep, must, may, part, then, again}
 use Rattle.smv_rules.specs.Table.{table}
 use Rattle.smv_rules.specs.Running.{if_seen, repeated, run}
-use Rattle.smv_rules.specs.Follows.{End, anywhere, at_depth, Follows, done, has, takes, skips, nests, stays, chains, stops, goes_on, Leads, here, deep_here, past_token, past_taken, past_skipped, in_part, in_other, in_first, past_first, in_next, past_next}
+use Rattle.smv_rules.specs.Follows.{by_token, End, anywhere, at_depth, Follows, done, has, takes, skips, nests, stays, chains, stops, goes_on, Leads, here, deep_here, past_token, past_taken, past_skipped, in_part, in_other, in_first, past_first, in_next, past_next}
 use Rattle.smv_rules.proofs.Ways.{follows_rest}
 
 -- what a result of reading by a rule tells of the tokens
 abbrev pub Tells : (n : ℕ) {s : Sort} → Rule s → List Token → Got (Gift s) → Type 0
-Tells n {s} r ts out = TellsOf (Follows n s r ts) (Leads anywhere n s r ts) (Leads at_depth n s r ts) out
+Tells n {s} r ts out = TellsOf (Follows by_token n s r ts) (Leads by_token anywhere n s r ts) (Leads by_token at_depth n s r ts) out
 
 -- what tells of one rule tells of another from which it is reached
-as_well : (n m : ℕ) {s : Sort} (q r : Rule s) (us ts : List Token) → ((rest : List Token) (x : Gift s) → Follows n s q us rest x → Follows m s r ts rest x) → ((e : End) (rest : List Token) → Leads e n s q us rest → Leads e m s r ts rest) → (out : Got (Gift s)) → Tells n q us out → Tells m r ts out
+as_well : (n m : ℕ) {s : Sort} (q r : Rule s) (us ts : List Token) → ((rest : List Token) (x : Gift s) → Follows by_token n s q us rest x → Follows by_token m s r ts rest x) → ((e : End) (rest : List Token) → Leads by_token e n s q us rest → Leads by_token e m s r ts rest) → (out : Got (Gift s)) → Tells n q us out → Tells m r ts out
 unfolding TellsOf
 as_well n m q r us ts f g (Ok x) h = f x.1 x.0 h
 as_well n m q r us ts f g (Err (wrong i)) h = record { rest = h.rest; count = h.count; holds = g anywhere h.rest h.holds }
@@ -40,7 +40,7 @@ then_told n z s r f ts next (Err (wrong i)) h = record { rest = h.rest; count = 
 then_told n z s r f ts next (Err (deep i)) h = record { rest = h.rest; count = h.count; holds = in_first at_depth n z s r f ts h.rest h.holds }
 
 -- one more, and then as many more as there are
-next_told : (n : ℕ) (s : Sort) (k : Key) (f : Gift s → Payload k → Rule s) (a : Gift s) (t : Token) (p : Payload k) (ts : List Token) → sees k t ts ≡ Some p → (go : Gift s → List Token → Got (Gift s)) → ((b : Gift s) (us : List Token) → Follows n s (f a p) ts us b → Tells n (again s k f b) us (go b us)) → (out : Got (Gift s)) → Tells n (f a p) ts out → Tells n (again s k f a) (t ∷ ts) (out >>= (λ b. go b.0 b.1))
+next_told : (n : ℕ) (s : Sort) (k : Key) (f : Gift s → Payload k → Rule s) (a : Gift s) (t : Token) (p : Payload k) (ts : List Token) → sees k t ts ≡ Some p → (go : Gift s → List Token → Got (Gift s)) → ((b : Gift s) (us : List Token) → Follows by_token n s (f a p) ts us b → Tells n (again s k f b) us (go b us)) → (out : Got (Gift s)) → Tells n (f a p) ts out → Tells n (again s k f a) (t ∷ ts) (out >>= (λ b. go b.0 b.1))
 unfolding TellsOf
 next_told n s k f a t p ts e go more (Ok b) h = as_well n n (again s k f b.0) (again s k f a) b.1 (t ∷ ts) (λ rest x j. goes_on n s k f a t p ts b.1 rest b.0 x e h j) (λ i rest j. past_next i n s k f a t p ts b.1 rest b.0 e h j) (go b.0 b.1) (more b.0 b.1 h)
 next_told n s k f a t p ts e go more (Err (wrong i)) h = record { rest = h.rest; count = h.count; holds = in_next anywhere n s k f a t p ts h.rest e h.holds }

@@ -8,7 +8,7 @@ use Rattle.smv_rules.specs.Sorts.{Sort, a_formula, an_expression, some_bodies}
 use Rattle.smv_rules.specs.Rules.{Rule}
 use Rattle.smv_rules.specs.Expressions.{expr}
 use Rattle.smv_rules.specs.Programs.{program}
-use Rattle.smv_rules.specs.Follows.{Leads, anywhere, at_depth}
+use Rattle.smv_rules.specs.Follows.{by_token, Leads, anywhere, at_depth}
 use Rattle.smv_rules.specs.Running.{run}
 use Rattle.smv_rules.specs.Texts.{IsAll, formula}
 use Rattle.smv_rules.specs.WholeReading.{Right}
@@ -16,7 +16,7 @@ use Rattle.smv_rules.proofs.Begun.{Late, expr_late, formula_late, late_some}
 use Rattle.smv_rules.proofs.Deciding.{rule_decides}
 
 -- reading all tokens decides a rule that is not too deep at once
-pub decides : (s : Sort) (r : Rule s) → Late r → DecidesAll (IsAll r) (Leads anywhere deepest s r) (Leads at_depth deepest s r) (λ ts. all_read (run deepest r ts))
+pub decides : (s : Sort) (r : Rule s) → Late r → DecidesAll (IsAll r) (Leads by_token anywhere deepest s r) (Leads by_token at_depth deepest s r) (λ ts. all_read (run deepest r ts))
 decides s r l = decides_all (rule_decides deepest s r (λ ts rest h. late_some h refl l))
 
 right : (s : Sort) (r : Rule s) → Late r → Right r

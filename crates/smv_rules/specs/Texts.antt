@@ -8,11 +8,11 @@ use Rattle.smv_grammar.specs.Formulas.{outermost}
 use Rattle.smv_rules.specs.Sorts.{Gift, Sort, a_formula}
 use Rattle.smv_rules.specs.Rules.{Rule}
 use Rattle.smv_rules.specs.Formulas.{formula_level}
-use Rattle.smv_rules.specs.Follows.{Follows, Leads, anywhere, at_depth}
+use Rattle.smv_rules.specs.Follows.{by_token, Follows, Leads, anywhere, at_depth}
 
 -- all tokens are what the rule says
 abbrev pub IsAll : {s : Sort} → Rule s → List Token → Gift s → Type 0
-IsAll {s} r ts x = Follows deepest s r ts [] x
+IsAll {s} r ts x = Follows by_token deepest s r ts [] x
 
 -- what the whole texts are: an expression, a formula, modules
 abbrev pub formula : Rule a_formula
@@ -24,4 +24,4 @@ SpellsBy r bytes x = SpellsText (IsAll r) bytes x
 
 -- why a text spells nothing by the rule
 abbrev pub ExplainsBy : {s : Sort} → Rule s → List ℕ → ParseFault → Type 0
-ExplainsBy {s} r bytes f = ExplainsText (IsAll r) (Leads anywhere deepest s r) (Leads at_depth deepest s r) bytes f
+ExplainsBy {s} r bytes f = ExplainsText (IsAll r) (Leads by_token anywhere deepest s r) (Leads by_token at_depth deepest s r) bytes f
