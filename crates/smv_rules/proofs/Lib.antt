@@ -4,3 +4,7 @@ pub mod Meeting
 pub mod Begun
 pub mod Deciding
 pub mod Verdicts
+pub mod Plain
+pub mod Firsts
+pub mod Inverting
+pub mod ClearExpressions
