@@ -60,7 +60,7 @@ path_clear : (n : ℕ) (o : List ℕ) (p : Place) → Clear n (primary_from (pat
 unfolding Clear Starts tail_level
 path_clear n o p = (((λ b q. ((λ r. tt), (λ a. tt))), (λ us c. closed_mark marks.Dot 0 us (omega arith) (begins_starts n an_expression _ (Closed 0) us c))), (λ a. tt))
 
-primary_clear : (n : ℕ) → ((o : Opener) (p : Place) → Clear n (part an_expression (inside o p) (too_deep an_expression)) (Closed 0)) → Clear n primary (Closed 0)
+pub primary_clear : (n : ℕ) → ((o : Opener) (p : Place) → Clear n (part an_expression (inside o p) (too_deep an_expression)) (Closed 0)) → Clear n primary (Closed 0)
 unfolding Clear Starts tail_level
 primary_clear n inner = λ o. by o.0 o.1 where
   by : (o : Primary) (p : Place) → Clear n (primary_from o p) (Closed 0)
@@ -79,7 +79,7 @@ loop_closed n l f us h = elim (begins_starts n an_expression (λ a. again an_exp
   | inr c ↦ closed_less (suc l) l us (omega arith) c
 ]
 
-infix_clear : (n l : ℕ) (tighter : Rule an_expression) → Clear n tighter (Closed l) → Clear n (tighter >>= joined (suc l) tighter) (Closed (suc l))
+pub infix_clear : (n l : ℕ) (tighter : Rule an_expression) → Clear n tighter (Closed l) → Clear n (tighter >>= joined (suc l) tighter) (Closed (suc l))
 unfolding Clear
 infix_clear n l tighter h =
     (clear_less n tighter (Closed l) (Begins n an_expression (joined (suc l) tighter) (Closed (suc l))) (loop_closed n l _) h,

@@ -8,3 +8,6 @@ pub mod Plain
 pub mod Firsts
 pub mod Inverting
 pub mod ClearExpressions
+pub mod ClearLevels
+pub mod PlainLaws
+pub mod ClearFormulas

@@ -8,7 +8,7 @@ use Rattle.smv_grammar.specs.Formulas.{outermost}
 use Rattle.smv_rules.specs.Sorts.{Gift, Sort, a_formula}
 use Rattle.smv_rules.specs.Rules.{Rule}
 use Rattle.smv_rules.specs.Formulas.{formula_level}
-use Rattle.smv_rules.specs.Follows.{by_token, Follows, Leads, anywhere, at_depth}
+use Rattle.smv_rules.specs.Follows.{by_token, plain, Follows, Leads, anywhere, at_depth}
 
 -- all tokens are what the rule says
 abbrev pub IsAll : {s : Sort} → Rule s → List Token → Gift s → Type 0
@@ -25,3 +25,7 @@ SpellsBy r bytes x = SpellsText (IsAll r) bytes x
 -- why a text spells nothing by the rule
 abbrev pub ExplainsBy : {s : Sort} → Rule s → List ℕ → ParseFault → Type 0
 ExplainsBy {s} r bytes f = ExplainsText (IsAll r) (Leads by_token anywhere deepest s r) (Leads by_token at_depth deepest s r) bytes f
+
+-- the plain rules spell the same whole texts as those by which the next token decides
+abbrev pub SameWhenPlain : {s : Sort} → Rule s → Type 0
+SameWhenPlain {s} r = (ts : List Token) (x : Gift s) → (Follows plain deepest s r ts [] x → IsAll r ts x) × (IsAll r ts x → Follows plain deepest s r ts [] x)

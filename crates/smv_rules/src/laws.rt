@@ -1,6 +1,6 @@
 ghost use Rattle.smv_rules.specs.Expressions.{expr};
 ghost use Rattle.smv_rules.specs.Programs.{program};
-ghost use Rattle.smv_rules.specs.Texts.{formula};
+ghost use Rattle.smv_rules.specs.Texts.{SameWhenPlain, formula};
 ghost use Rattle.smv_rules.specs.WholeReading.{Right};
 
 /// The reading of texts by the rules is what the rules say: it gives exactly what a text spells, and
@@ -10,4 +10,11 @@ pub fn reading_is_right()
     ensures expression { Right expr }
     ensures formula { Right formula }
     ensures program { Right program }
+{}
+
+/// What the next token decides loses nothing: the plain rules, by which a part may be left out and what
+/// comes again may end wherever what follows can stand there, spell the same.
+#[tactic(auto, using(crate::proofs::PlainLaws::expression_plain))]
+pub fn next_token_loses_nothing()
+    ensures expression { SameWhenPlain expr }
 {}
