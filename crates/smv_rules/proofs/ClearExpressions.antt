@@ -1,23 +1,19 @@
 -- What follows an expression tells where its parts end.
-use Rattle.std.proofs.Common.{◌≡◌, ◌<◌, ◌≤◌, ℕ, zero, suc, Bool, true, false, cond, List, [], ◌∷◌, Option, Some, None, ◌⊎◌, ltb, refl, sym, ◌∙◌, ap, subst, inl, inr, arith}
+use Rattle.std.proofs.Common.{◌<◌, ℕ, suc, Bool, true, false, cond, List, inl, inr, arith}
 use Rattle.std.specs.Prelude.{nat_lt}
 use Rattle.smv_tree.specs.declared.place.Place.{Place}
 use Rattle.smv_tree.specs.Trees.{Tree}
-use Rattle.smv_tree.specs.Trees as tree
 use Rattle.smv_token.specs.declared.mark.Mark.{Mark}
 use Rattle.smv_token.specs.declared.mark.Mark.TheVariants as marks
 use Rattle.smv_token.specs.declared.token.Token.{Token}
-use Rattle.smv_token.specs.declared.token.Lexeme.TheVariants as lexeme
-use Rattle.smv_grammar.specs.Forms.{begins_range, deepest}
+use Rattle.smv_grammar.specs.Forms.{deepest}
 use Rattle.smv_rules.specs.Keys.{Key, Opener, Primary, Unseen, truth, path, digits, below, word, opens, round, set, branches, count, next, function, widen, const, primary_by, sees}
 use Rattle.smv_rules.specs.Keys as key
-use Rattle.smv_rules.specs.Sorts.{Branches, Expression, Gift, Operands, Sort, an_expression, an_integer, some_branches, some_operands}
-use Rattle.smv_rules.specs.Rules.{Part, Rule, gives, too_deep, must, may, part, again, expression, inside, bits, ◌>>=◌}
-use Rattle.smv_rules.specs.Expressions.{an_int, bracketed, branch, chosen, deeper, enclosed, expr, implied, joined, level, mark, name, nested, number, opened, operands, primary, primary_from, range_from, selected, selecting, side}
-use Rattle.smv_rules.specs.Table.{table}
-use Rattle.smv_rules.specs.Follows.{Follows, plain}
-use Rattle.smv_rules.proofs.Plain.{Begins, Clear, Seen, Starts, clear_less, starts_law}
-use Rattle.smv_rules.proofs.Firsts.{Closed, closed_less, closed_mark, closed_operator, number_no_mark, operator_closed, primary_no_mark, seen_closed, seen_is, seen_other, tail_level, unseen_by}
+use Rattle.smv_rules.specs.Sorts.{Expression, Sort, an_expression, an_integer}
+use Rattle.smv_rules.specs.Rules.{Rule, gives, too_deep, part, again, inside, ◌>>=◌}
+use Rattle.smv_rules.specs.Expressions.{an_int, deeper, joined, mark, primary, primary_from, range_from}
+use Rattle.smv_rules.proofs.Plain.{Begins, Clear, Starts, clear_less, starts_law}
+use Rattle.smv_rules.proofs.Firsts.{Closed, closed_less, closed_mark, closed_operator, number_no_mark, operator_closed, seen_closed, tail_level}
 
 abbrev Set : Type 1
 Set = List Token → Type 0
@@ -81,6 +77,7 @@ loop_closed n l f us h = elim (begins_starts n an_expression (λ a. again an_exp
 
 pub infix_clear : (n l : ℕ) (tighter : Rule an_expression) → Clear n tighter (Closed l) → Clear n (tighter >>= joined (suc l) tighter) (Closed (suc l))
 unfolding Clear
-infix_clear n l tighter h =
-    (clear_less n tighter (Closed l) (Begins n an_expression (joined (suc l) tighter) (Closed (suc l))) (loop_closed n l _) h,
-    (λ a. ((λ b o. (clear_less n tighter (Closed l) _ (λ us c. loop_closed n l _ us (deeper_begins n _ _ _ us c)) h, (λ c. deeper_clear n _ _ _))), (λ us c. closed_operator (suc l) us c))))
+infix_clear n l tighter h = (
+  clear_less n tighter (Closed l) (Begins n an_expression (joined (suc l) tighter) (Closed (suc l))) (loop_closed n l _) h,
+  (λ a. ((λ b o. (clear_less n tighter (Closed l) _ (λ us c. loop_closed n l _ us (deeper_begins n _ _ _ us c)) h, (λ c. deeper_clear n _ _ _))), (λ us c. closed_operator (suc l) us c))),
+)

@@ -1,5 +1,5 @@
 -- What follows a formula of a level tells where its parts end.
-use Rattle.std.proofs.Common.{◌≡◌, ◌<◌, ◌≤◌, ◌==◌, ℕ, zero, suc, Bool, true, false, cond, List, [], ◌∷◌, Option, Some, None, ◌⊎◌, refl, inl, inr, ap, sym, ◌∙◌, arith}
+use Rattle.std.proofs.Common.{◌≡◌, ◌<◌, ◌≤◌, ◌==◌, ℕ, zero, suc, Bool, true, false, cond, List, [], ◌∷◌, Option, Some, None, refl, inl, inr, ap, arith}
 use Rattle.std.specs.Prelude.{nat_lt}
 use Rattle.std.proofs.lemmas.Bool.{eqb-true}
 use Rattle.smv_tree.specs.declared.formula.FormOp.{FormOp}
@@ -14,7 +14,7 @@ use Rattle.smv_grammar.specs.Forms.{deepest}
 use Rattle.smv_grammar.specs.Formulas.{joining_by, joining_of}
 use Rattle.smv_rules.specs.Keys.{Key, Unseen, of_level, present, sees}
 use Rattle.smv_rules.specs.Keys as key
-use Rattle.smv_rules.specs.Sorts.{Formula, Sort, a_formula}
+use Rattle.smv_rules.specs.Sorts.{Formula, a_formula}
 use Rattle.smv_rules.specs.Rules.{Rule, gives, too_deep, again, ◌>>=◌}
 use Rattle.smv_rules.specs.Expressions.{level, mark}
 use Rattle.smv_rules.specs.Formulas.{deeper, formula_level, implied, joined, opened, operand, side}
@@ -130,12 +130,15 @@ round_begins n f C us h = mark_closes marks.CloseRound us (omega arith) (omega a
 
 operand_clear : (n : ℕ) → Nested n → Clear n operand (FormulaClosed 1)
 unfolding Clear Starts
-operand_clear n nest =
-    ((λ f. (clear_less n (opened 1) (FormulaClosed 1) _ (λ us b. deeper_begins n _ _ _ us b) nest.one, (λ a. deeper_clear n _ _ _))),
-    ((λ p. (clear_less n (opened 6) (FormulaClosed 6) _ (λ us b. round_begins n _ _ us b) nest.all, (λ a. ((λ q. tt), (λ q. deeper_clear n _ _ _))))),
+operand_clear n nest = (
+  (λ f. (clear_less n (opened 1) (FormulaClosed 1) _ (λ us b. deeper_begins n _ _ _ us b) nest.one, (λ a. deeper_clear n _ _ _))),
+  (
+    (λ p. (clear_less n (opened 6) (FormulaClosed 6) _ (λ us b. round_begins n _ _ us b) nest.all, (λ a. ((λ q. tt), (λ q. deeper_clear n _ _ _))))),
     (clear_less n (level 10) (Closed 10) _ (λ us b. formula_atom 1 us (begins_starts n a_formula _ (FormulaClosed 1) us b)) (levels_clear n).ten, (λ a. tt)),
-    (λ us rest x i j c. i)),
-    (λ us rest x i j c. i))
+    (λ us rest x i j c. i),
+  ),
+  (λ us rest x i j c. i),
+)
 
 loop_closed : (n l : ℕ) (f : Formula → FormOp → Rule a_formula) (us : List Token) → Begins n a_formula (λ a. again a_formula (key.connective (suc l)) f a) (FormulaClosed (suc l)) us → FormulaClosed l us
 unfolding Starts
@@ -146,9 +149,10 @@ loop_closed n l f us h = elim (begins_starts n a_formula (λ a. again a_formula 
 
 infix_clear : (n l : ℕ) (tighter : Rule a_formula) → Clear n tighter (FormulaClosed l) → Clear n (tighter >>= joined (suc l) tighter) (FormulaClosed (suc l))
 unfolding Clear
-infix_clear n l tighter h =
-    (clear_less n tighter (FormulaClosed l) (Begins n a_formula (joined (suc l) tighter) (FormulaClosed (suc l))) (loop_closed n l _) h,
-    (λ a. ((λ b o. (clear_less n tighter (FormulaClosed l) _ (λ us c. loop_closed n l _ us (deeper_begins n _ _ _ us c)) h, (λ c. deeper_clear n _ _ _))), (λ us c. closed_connective (suc l) us c))))
+infix_clear n l tighter h = (
+  clear_less n tighter (FormulaClosed l) (Begins n a_formula (joined (suc l) tighter) (FormulaClosed (suc l))) (loop_closed n l _) h,
+  (λ a. ((λ b o. (clear_less n tighter (FormulaClosed l) _ (λ us c. loop_closed n l _ us (deeper_begins n _ _ _ us c)) h, (λ c. deeper_clear n _ _ _))), (λ us c. closed_connective (suc l) us c))),
+)
 
 implied_closed : (n : ℕ) (us : List Token) → Begins n a_formula implied (FormulaClosed 6) us → FormulaClosed 5 us
 unfolding Starts
@@ -159,9 +163,10 @@ implied_closed n us h = elim (begins_starts n a_formula implied (FormulaClosed 6
 
 implied_clear : (n : ℕ) → Nested n → (tighter : Rule a_formula) → Clear n tighter (FormulaClosed 5) → Clear n (tighter >>= implied) (FormulaClosed 6)
 unfolding Clear Starts
-implied_clear n nest tighter h =
-    (clear_less n tighter (FormulaClosed 5) (Begins n a_formula implied (FormulaClosed 6)) (implied_closed n) h,
-    (λ a. ((λ p. (clear_less n side (FormulaClosed 6) _ (λ us b. deeper_begins n _ _ _ us b) nest.right, (λ b. deeper_clear n _ _ _))), tt, (λ us rest x i j k. closed_connective 6 us (starts_law j (FormulaClosed 6) k)))))
+implied_clear n nest tighter h = (
+  clear_less n tighter (FormulaClosed 5) (Begins n a_formula implied (FormulaClosed 6)) (implied_closed n) h,
+  (λ a. ((λ p. (clear_less n side (FormulaClosed 6) _ (λ us b. deeper_begins n _ _ _ us b) nest.right, (λ b. deeper_clear n _ _ _))), tt, (λ us rest x i j k. closed_connective 6 us (starts_law j (FormulaClosed 6) k)))),
+)
 
 levels_from : (n : ℕ) → Nested n → Levels n
 unfolding formula_level

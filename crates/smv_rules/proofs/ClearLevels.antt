@@ -1,5 +1,5 @@
 -- What follows an expression of a level tells where its parts end, at each level and in each nesting.
-use Rattle.std.proofs.Common.{◌≡◌, ◌<◌, ◌≤◌, ℕ, zero, suc, Bool, true, false, cond, List, [], ◌∷◌, Option, Some, None, ◌⊎◌, refl, sym, ◌∙◌, ap, subst, inl, inr, arith}
+use Rattle.std.proofs.Common.{◌≡◌, ◌<◌, ℕ, zero, suc, Bool, true, false, cond, List, [], ◌∷◌, Option, Some, None, ◌⊎◌, refl, sym, ◌∙◌, ap, subst, inl, inr, arith}
 use Rattle.smv_tree.specs.declared.place.Place.{Place}
 use Rattle.smv_tree.specs.Trees.{arms}
 use Rattle.smv_tree.specs.Trees as tree
@@ -8,19 +8,19 @@ use Rattle.smv_token.specs.declared.mark.Mark.TheVariants as marks
 use Rattle.smv_token.specs.declared.token.Token.{Token}
 use Rattle.smv_token.specs.declared.token.Lexeme.{Lexeme}
 use Rattle.smv_token.specs.declared.token.Lexeme.TheVariants as lexeme
-use Rattle.smv_grammar.specs.Forms.{begins_range, capped, is_number, is_dots, begins_dots}
+use Rattle.smv_grammar.specs.Forms.{begins_range, capped, is_number, is_dots}
 use Rattle.smv_grammar.specs.IsMark.{is_mark, same_mark}
 use Rattle.smv_reading.proofs.Tells.{is_mark_true}
 use Rattle.smv_rules.specs.Keys.{Key, Opener, Primary, Unseen, begins_with, below, if_there, number_of, opens, present, primary_by, primary_of, round, set, branches, count, next, function, widen, const, sees, with_place}
 use Rattle.smv_rules.specs.Keys as key
-use Rattle.smv_rules.specs.Sorts.{Branches, Expression, Gift, Operands, Sort, an_expression, an_integer, some_branches, some_operands}
-use Rattle.smv_rules.specs.Rules.{Part, Rule, gives, too_deep, must, may, part, then, again, expression, inside, bits, ◌>>=◌}
-use Rattle.smv_rules.specs.Expressions.{an_int, bracketed, branch, chosen, deeper, enclosed, expr, no_branches, implied, joined, level, mark, name, nested, number, opened, operands, prefixed, primary, primary_from, range_from, selected, selecting, side}
+use Rattle.smv_rules.specs.Sorts.{Branches, Expression, Gift, Operands, Sort, an_expression, some_branches, some_operands}
+use Rattle.smv_rules.specs.Rules.{Rule, gives, too_deep, part, again, inside, bits, ◌>>=◌}
+use Rattle.smv_rules.specs.Expressions.{bracketed, branch, chosen, deeper, expr, no_branches, implied, level, mark, nested, number, opened, operands, prefixed, primary, primary_from, range_from, selected, selecting, side}
 use Rattle.smv_rules.specs.Table.{table}
 use Rattle.smv_rules.specs.Follows.{Follows, plain}
 use Rattle.smv_rules.proofs.Plain.{Begins, Clear, Seen, Starts, clear_less, starts_law}
-use Rattle.smv_rules.proofs.Inverting.{Had, Inverted, inverted}
-use Rattle.smv_rules.proofs.Firsts.{Closed, closed_less, closed_mark, closed_operator, operator_closed, primary_no_mark, seen_closed, seen_is, seen_other, tail_level}
+use Rattle.smv_rules.proofs.Inverting.{Inverted, inverted}
+use Rattle.smv_rules.proofs.Firsts.{Closed, closed_less, closed_mark, primary_no_mark, seen_closed, seen_other, tail_level}
 use Rattle.smv_rules.proofs.ClearExpressions.{begins_starts, deeper_begins, deeper_clear, infix_clear, int_clear, mark_begins, primary_clear}
 
 -- the parts that are nested once more
@@ -50,9 +50,10 @@ bits_closed n f us h = elim (begins_starts n an_expression (λ a. again an_expre
 
 selected_clear : (n : ℕ) → Nested n → (tighter : Rule an_expression) → Clear n tighter (Closed 0) → Clear n (tighter >>= selected) (Closed 1)
 unfolding Clear tail_level
-selected_clear n nest tighter h =
-    (clear_less n tighter (Closed 0) (Begins n an_expression selected (Closed 1)) (bits_closed n _) h,
-    (λ a. ((λ b p. nest.chosen_bits b p _), (λ us c. closed_mark marks.OpenSquare 1 us (omega arith) c))))
+selected_clear n nest tighter h = (
+  clear_less n tighter (Closed 0) (Begins n an_expression selected (Closed 1)) (bits_closed n _) h,
+  (λ a. ((λ b p. nest.chosen_bits b p _), (λ us c. closed_mark marks.OpenSquare 1 us (omega arith) c))),
+)
 
 -- operators before an operand
 prefixed_clear : (n l : ℕ) (p : Place) (o : _) → Clear n (opened l) (Closed l) → Clear n (prefixed p o l) (Closed l)
@@ -65,10 +66,11 @@ level_one_starts n C us h = h
 
 bang_clear : (n : ℕ) → Nested n → Clear n (level 1) (Closed 1) → Clear n (level 2) (Closed 2)
 unfolding Clear level primary_by
-bang_clear n nest h =
-    ((λ p. prefixed_clear n 2 p _ nest.two),
-    clear_less n (level 1) (Closed 1) (Closed 2) (λ us c. closed_less 2 1 us (omega arith) c) h,
-    (λ us rest x i j c. primary_no_mark marks.Bang us refl (level_one_starts n (Closed 2) us (starts_law j (Closed 2) c))))
+bang_clear n nest h = (
+  (λ p. prefixed_clear n 2 p _ nest.two),
+  clear_less n (level 1) (Closed 1) (Closed 2) (λ us c. closed_less 2 1 us (omega arith) c) h,
+  (λ us rest x i j c. primary_no_mark marks.Bang us refl (level_one_starts n (Closed 2) us (starts_law j (Closed 2) c))),
+)
 
 -- A `-` at the front of an expression of a level tighter than 4 begins a range.
 counted_there : (x : Lexeme) (n : ℕ) → number_of x ≡ Some n → is_number x ≡ true
@@ -142,10 +144,11 @@ tight_no_minus n us rest x h =
 
 minus_clear : (n : ℕ) → Nested n → Clear n (level 3) (Closed 3) → Clear n (level 4) (Closed 4)
 unfolding Clear level
-minus_clear n nest h =
-    ((λ p. prefixed_clear n 4 p _ nest.four),
-    clear_less n (level 3) (Closed 3) (Closed 4) (λ us c. closed_less 4 3 us (omega arith) c) h,
-    (λ us rest x i j c. tight_no_minus n us rest x j))
+minus_clear n nest h = (
+  (λ p. prefixed_clear n 4 p _ nest.four),
+  clear_less n (level 3) (Closed 3) (Closed 4) (λ us c. closed_less 4 3 us (omega arith) c) h,
+  (λ us rest x i j c. tight_no_minus n us rest x j),
+)
 
 -- a condition and its branches
 chosen_closed : (n : ℕ) (us : List Token) → Begins n an_expression chosen (Closed 13) us → Closed 12 us
@@ -157,9 +160,10 @@ chosen_closed n us h = elim (begins_starts n an_expression chosen (Closed 13) us
 
 chosen_clear : (n : ℕ) → Nested n → (tighter : Rule an_expression) → Clear n tighter (Closed 12) → Clear n (tighter >>= chosen) (Closed 13)
 unfolding Clear Starts tail_level
-chosen_clear n nest tighter h =
-    (clear_less n tighter (Closed 12) (Begins n an_expression chosen (Closed 13)) (chosen_closed n) h,
-    (λ c. ((λ p. (clear_less n (side 15) (Closed 15) _ (λ us b. mark_begins n an_expression marks.Colon _ 15 _ us (omega arith) b) nest.fifteen, (λ a. ((λ q. tt), (λ q. (clear_less n (side 13) (Closed 13) _ (λ us b. deeper_begins n _ _ _ us b) nest.thirteen, (λ b. deeper_clear n _ _ _))))))), tt, (λ us rest x i j k. closed_mark marks.Question 13 us (omega arith) (starts_law j (Closed 13) k)))))
+chosen_clear n nest tighter h = (
+  clear_less n tighter (Closed 12) (Begins n an_expression chosen (Closed 13)) (chosen_closed n) h,
+  (λ c. ((λ p. (clear_less n (side 15) (Closed 15) _ (λ us b. mark_begins n an_expression marks.Colon _ 15 _ us (omega arith) b) nest.fifteen, (λ a. ((λ q. tt), (λ q. (clear_less n (side 13) (Closed 13) _ (λ us b. deeper_begins n _ _ _ us b) nest.thirteen, (λ b. deeper_clear n _ _ _))))))), tt, (λ us rest x i j k. closed_mark marks.Question 13 us (omega arith) (starts_law j (Closed 13) k)))),
+)
 
 -- the right side of an arrow
 implied_closed : (n : ℕ) (us : List Token) → Begins n an_expression implied (Closed 15) us → Closed 14 us
@@ -171,9 +175,10 @@ implied_closed n us h = elim (begins_starts n an_expression implied (Closed 15) 
 
 implied_clear : (n : ℕ) → Nested n → (tighter : Rule an_expression) → Clear n tighter (Closed 14) → Clear n (tighter >>= implied) (Closed 15)
 unfolding Clear Starts tail_level
-implied_clear n nest tighter h =
-    (clear_less n tighter (Closed 14) (Begins n an_expression implied (Closed 15)) (implied_closed n) h,
-    (λ a. ((λ p. (clear_less n (side 15) (Closed 15) _ (λ us b. deeper_begins n _ _ _ us b) nest.fifteen, (λ b. deeper_clear n _ _ _))), tt, (λ us rest x i j k. closed_mark marks.Arrow 15 us (omega arith) (starts_law j (Closed 15) k)))))
+implied_clear n nest tighter h = (
+  clear_less n tighter (Closed 14) (Begins n an_expression implied (Closed 15)) (implied_closed n) h,
+  (λ a. ((λ p. (clear_less n (side 15) (Closed 15) _ (λ us b. deeper_begins n _ _ _ us b) nest.fifteen, (λ b. deeper_clear n _ _ _))), tt, (λ us rest x i j k. closed_mark marks.Arrow 15 us (omega arith) (starts_law j (Closed 15) k)))),
+)
 
 -- all levels within a nesting
 levels_from : (n : ℕ) → Nested n → Levels n
@@ -198,7 +203,7 @@ levels_from n nest =
     record { two = two_; four = four_; ten = ten_; thirteen = thirteen_; fifteen = fifteen_ }
 
 -- brackets, sets, functions
-expr_until : (n : ℕ) (s : Sort) (k : Mark) (f : Expression → Place → Rule s) (C : List Token → Type 0) → 15 < tail_level k → Clear n expr (Closed 15) → Clear n expr (Begins n s (λ a. mark k >>= f a) C)
+pub expr_until : (n : ℕ) (s : Sort) (k : Mark) (f : Expression → Place → Rule s) (C : List Token → Type 0) → 15 < tail_level k → Clear n expr (Closed 15) → Clear n expr (Begins n s (λ a. mark k >>= f a) C)
 expr_until n s k f C lt h = clear_less n expr (Closed 15) (Begins n s (λ a. mark k >>= f a) C) (λ us b. mark_begins n s k f 15 C us lt b) h
 
 bracketed_clear : (n : ℕ) (a : Expression) (C : List Token → Type 0) → Clear n (bracketed a) C
@@ -218,12 +223,13 @@ further_operand n g f C c us h = elim (begins_starts n some_operands (λ x. agai
 -- what follows operands ends an expression and is no comma
 pub operands_clear : (n : ℕ) (C : List Token → Type 0) → ((us : List Token) → C us → Closed 15 us) → ((us : List Token) → C us → Unseen (key.mark marks.Comma) us) → Clear n expr (Closed 15) → Clear n operands C
 unfolding Clear Starts
-operands_clear n C c u h =
-    (clear_less n expr (Closed 15) _ (λ us b. further_operand n _ _ C c us b) h,
-    (λ a. ((λ xs p. (clear_less n expr (Closed 15) _ (λ us b. further_operand n _ _ C c us (begins_starts n some_operands _ _ us b)) h, (λ b. tt))), u)))
+operands_clear n C c u h = (
+  clear_less n expr (Closed 15) _ (λ us b. further_operand n _ _ C c us b) h,
+  (λ a. ((λ xs p. (clear_less n expr (Closed 15) _ (λ us b. further_operand n _ _ C c us (begins_starts n some_operands _ _ us b)) h, (λ b. tt))), u)),
+)
 
 -- operands up to a mark
-operands_until : (n : ℕ) (s : Sort) (k : Mark) (f : Operands → Place → Rule s) (C : List Token → Type 0) → 15 < tail_level k → (lexeme.Mark k ≡ lexeme.Mark marks.Comma → ⊥) → Clear n expr (Closed 15) → Clear n operands (Begins n s (λ a. mark k >>= f a) C)
+pub operands_until : (n : ℕ) (s : Sort) (k : Mark) (f : Operands → Place → Rule s) (C : List Token → Type 0) → 15 < tail_level k → (lexeme.Mark k ≡ lexeme.Mark marks.Comma → ⊥) → Clear n expr (Closed 15) → Clear n operands (Begins n s (λ a. mark k >>= f a) C)
 unfolding Starts
 operands_until n s k f C lt d h = operands_clear n (Begins n s (λ a. mark k >>= f a) C) (λ us b. mark_begins n s k f 15 C us lt b) (λ us b. seen_other k marks.Comma us d (begins_starts n s (λ a. mark k >>= f a) C us b)) h
 
@@ -272,10 +278,13 @@ case_closed n p C us (inr b) = seen_closed marks.Semicolon 15 us (omega arith) (
 
 case_clear : (n : ℕ) (p : Place) (C : List Token → Type 0) → Clear n expr (Closed 15) → Clear n (nested branches p) C
 unfolding Clear Starts
-case_clear n p C h =
-    (branch_clear n no_branches (Begins n an_expression (λ b. case_loop b >>= case_end p) C) (λ us b. case_closed n p C us (begins_starts n an_expression (λ b. case_loop b >>= case_end p) C us b)) h,
-    (λ b. (((λ bs q. branch_clear n bs (Begins n some_branches case_loop (Begins n an_expression (case_end p) C)) (λ us d. case_closed n p C us (begins_starts n some_branches case_loop (Begins n an_expression (case_end p) C) us d)) h), (λ us d. case_ends n an_expression (λ q r. deeper (tree.cases p (arms d.from.arms)) d.from.depth) us d.rest d.what d.follows)),
-    (λ bs. ((λ q. tt), (λ q. ((λ r. tt), (λ r. deeper_clear n (tree.cases p (arms bs.arms)) bs.depth C))))))))
+case_clear n p C h = (
+  branch_clear n no_branches (Begins n an_expression (λ b. case_loop b >>= case_end p) C) (λ us b. case_closed n p C us (begins_starts n an_expression (λ b. case_loop b >>= case_end p) C us b)) h,
+  (λ b. (
+    ((λ bs q. branch_clear n bs (Begins n some_branches case_loop (Begins n an_expression (case_end p) C)) (λ us d. case_closed n p C us (begins_starts n some_branches case_loop (Begins n an_expression (case_end p) C) us d)) h), (λ us d. case_ends n an_expression (λ q r. deeper (tree.cases p (arms d.from.arms)) d.from.depth) us d.rest d.what d.follows)),
+    (λ bs. ((λ q. tt), (λ q. ((λ r. tt), (λ r. deeper_clear n (tree.cases p (arms bs.arms)) bs.depth C))))),
+  )),
+)
 
 -- what stands behind a token that opens a nesting ends with a mark of its own
 nested_clear : (n : ℕ) → Clear n expr (Closed 15) → (o : Opener) (p : Place) (C : List Token → Type 0) → Clear n (nested o p) C

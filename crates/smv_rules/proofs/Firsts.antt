@@ -11,7 +11,7 @@ use Rattle.smv_token.specs.declared.token.Lexeme.TheVariants as lexeme
 use Rattle.smv_grammar.specs.Forms.{infix_of}
 use Rattle.smv_grammar.specs.IsMark.{is_mark}
 use Rattle.smv_reading.proofs.Tells.{is_mark_true}
-use Rattle.smv_rules.specs.Keys.{Key, Primary, Unseen, by_mark, if_there, mark, mark_of, number, number_of, of_level, operator, present, primary, primary_by, primary_of, sees, with_place}
+use Rattle.smv_rules.specs.Keys.{Primary, Unseen, by_mark, if_there, mark, mark_of, number, number_of, of_level, operator, present, primary, primary_by, primary_of, sees, with_place}
 use Rattle.smv_rules.proofs.Plain.{Seen}
 
 -- The level at which a mark goes on with an expression, where paths and ranges have 0; what goes on with
@@ -124,7 +124,7 @@ pub number_no_mark : (k : Mark) (us : List Token) → Seen number us → Unseen 
 number_no_mark k [] h = tt
 number_no_mark k (t ∷ ts) h = unseen_by k t ts (number_not k t ts h)
 
-present_with : {X : Type 0} (o : Option X) (p : Place) → present (with_place o p) ≡ true → present o ≡ true
+pub present_with : {X : Type 0} (o : Option X) (p : Place) → present (with_place o p) ≡ true → present o ≡ true
 present_with None p e = absurd (cc)
 present_with (Some x) p e = refl
 

@@ -1,5 +1,5 @@
 -- What tokens of a rule are, by the rule's form.
-use Rattle.std.proofs.Common.{◌≡◌, ℕ, suc, List, [], ◌∷◌, Some, ◌⊎◌, refl, inl, inr}
+use Rattle.std.proofs.Common.{◌≡◌, ℕ, List, ◌∷◌, Some, ◌⊎◌, refl, inl, inr}
 use Rattle.smv_token.specs.declared.token.Token.{Token}
 use Rattle.smv_rules.specs.Keys.{Key, Payload, sees}
 use Rattle.smv_rules.specs.Sorts.{Gift, Sort}

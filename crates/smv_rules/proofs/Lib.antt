@@ -11,3 +11,4 @@ pub mod ClearExpressions
 pub mod ClearLevels
 pub mod PlainLaws
 pub mod ClearFormulas
+pub mod ClearPrograms

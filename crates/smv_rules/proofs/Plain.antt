@@ -1,10 +1,10 @@
 -- Where the tokens that may follow tell what is left out and what ends, the next token decides nothing:
 -- the plain rules spell the same.
-use Rattle.std.proofs.Common.{◌≡◌, ℕ, zero, suc, Bool, true, false, cond, List, [], ◌∷◌, Option, Some, None, ◌⊎◌, refl, sym, subst, inl, inr}
+use Rattle.std.proofs.Common.{◌≡◌, ℕ, zero, suc, true, List, [], ◌∷◌, Option, Some, ◌⊎◌, refl, sym, subst, inl, inr}
 use Rattle.smv_token.specs.declared.token.Token.{Token}
 use Rattle.smv_rules.specs.Keys.{Key, Payload, Unseen, before_formula, group, present, sees}
 use Rattle.smv_rules.specs.Sorts.{Gift, Sort}
-use Rattle.smv_rules.specs.Rules.{Part, Rule, gives, too_deep, must, may, part, then, again}
+use Rattle.smv_rules.specs.Rules.{Rule, gives, too_deep, must, may, part, then, again}
 use Rattle.smv_rules.specs.Table.{table}
 use Rattle.smv_rules.specs.Follows.{by_token, plain, Ruled, Follows, done, has, takes, skips, nests, stays, chains, stops, goes_on}
 

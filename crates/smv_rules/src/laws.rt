@@ -14,7 +14,9 @@ pub fn reading_is_right()
 
 /// What the next token decides loses nothing: the plain rules, by which a part may be left out and what
 /// comes again may end wherever what follows can stand there, spell the same.
-#[tactic(auto, using(crate::proofs::PlainLaws::expression_plain))]
+#[tactic(auto, using(crate::proofs::PlainLaws::expression_plain, crate::proofs::PlainLaws::formula_plain, crate::proofs::PlainLaws::program_plain))]
 pub fn next_token_loses_nothing()
     ensures expression { SameWhenPlain expr }
+    ensures formula { SameWhenPlain formula }
+    ensures program { SameWhenPlain program }
 {}
