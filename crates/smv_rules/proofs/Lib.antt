@@ -12,3 +12,4 @@ pub mod ClearLevels
 pub mod PlainLaws
 pub mod ClearFormulas
 pub mod ClearPrograms
+pub mod Examples
