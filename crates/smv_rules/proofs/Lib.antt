@@ -1,0 +1,15 @@
+pub mod Ways
+pub mod Told
+pub mod Meeting
+pub mod Begun
+pub mod Deciding
+pub mod Verdicts
+pub mod Plain
+pub mod Firsts
+pub mod Inverting
+pub mod ClearExpressions
+pub mod ClearLevels
+pub mod PlainLaws
+pub mod ClearFormulas
+pub mod ClearPrograms
+pub mod Examples

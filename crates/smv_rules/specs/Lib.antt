@@ -1,0 +1,11 @@
+pub mod Sorts
+pub mod Keys
+pub mod Rules
+pub mod Expressions
+pub mod Formulas
+pub mod Programs
+pub mod Table
+pub mod Follows
+pub mod Running
+pub mod Texts
+pub mod WholeReading

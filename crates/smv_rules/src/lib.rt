@@ -1,0 +1,7 @@
+#![tactic(auto)]
+//! The grammar of the SMV language as rules over the next token: one table for expressions, formulas
+//! and programs, one relation for what they spell, one for what leads to a place, and one reading.
+
+mod laws;
+
+pub use laws::{next_token_loses_nothing, reading_is_right};
