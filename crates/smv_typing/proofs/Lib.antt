@@ -1,0 +1,4 @@
+pub mod ByRules
+pub mod Kept
+pub mod Lists
+pub mod Parts
