@@ -1,5 +1,5 @@
 -- How the words of the program are read, the first of them apart.
-use Rattle.std.proofs.Common.{◌≡◌, ◌≤◌, ℕ, Bool, true, false, List, [], ◌∷◌, arith, drop, get_or, length, refl, ap, sym, ◌∙◌}
+use Rattle.std.proofs.Common.{◌≡◌, ◌≤◌, ℕ, true, false, List, [], ◌∷◌, arith, drop, get_or, length, ap, sym, ◌∙◌}
 use Rattle.std.specs.Prelude.{Some, codes, if◌then◌else◌}
 use Rattle.std.specs.Str.{bytes_eq}
 use Rattle.shell.specs.Sessions.{Asked, asked_by, with_script, with_word}

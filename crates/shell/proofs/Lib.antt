@@ -2,5 +2,4 @@ pub mod ScriptLines
 pub mod Lining
 pub mod Opening
 pub mod Asking
-pub mod Listing
-pub mod PastKept
+pub mod Refusing

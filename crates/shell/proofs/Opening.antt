@@ -23,10 +23,10 @@ use Rattle.shell_world.specs.declared.event.Side.{Side}
 use Rattle.shell_world.specs.declared.event.Side.TheVariants as side
 use Rattle.shell_world.specs.declared.state.State.{State}
 use Rattle.shell_world.specs.Processes.{Chain, Either, ForSome, Knowing, LacksMemory, Process, Refuses, SaysIf, Then}
-use Rattle.shell_world.specs.Scenes.{Moment, Told, after, after_refusal, at, goes_along, goes_on, is_go, quits, scene_of}
-use Rattle.shell_world.specs.Written.{AreWritten, Breaks, Performs, Written}
+use Rattle.shell_world.specs.Scenes.{Moment, Told, after, after_refusal, at, goes_along, goes_on, quits, scene_of}
+use Rattle.shell_world.specs.Written.{Breaks, Performs, Written}
 use Rattle.shell_world.proofs.Performing.{Completes, known, leads_uncut, led, left, over_said, over_went, right, said_ended, some, stopped, uncut, written_then}
-use Rattle.shell.specs.Closing.{Closes, told_of}
+use Rattle.shell.specs.Closing.{Closes}
 use Rattle.shell.specs.Sessions.{DoesInput, DoesRecalled, Fails, Follows, Treats, Turn, Turns}
 use Rattle.shell.specs.Sessions.Turns.{goes, stops}
 use Rattle.shell.specs.Lines.{RefusesLine, Sourcing}
@@ -49,33 +49,6 @@ turns_go prompts count {old = old} {mid = mid} {new = new} {e = e} {f = f} p g q
 -- one more turn was done
 pub turn_more : (prompts : Bool) (count : ℕ) {now next : Moment} {e : End} {whole : Process} {start : Moment} → Completes (Turns prompts count) now whole start → Performs (Turn prompts count) now e next → goes_on next.state e ≡ true → Completes (Turns prompts (count + 1)) next whole start
 turn_more prompts count c p g = record { onwards = λ f last q. c.onwards f last (turns_go prompts count p g q) }
-
--- the same of the objects' names: only what they tell is written about
-nameless_breaks : (s : Side) (text : List ℕ) (mid new : Told) → Breaks s text mid new → Breaks s text mid (told_of new.input new.disk new.out new.err)
-nameless_breaks side.Output text mid new b = b
-nameless_breaks side.Errors text mid new b = b
-
-nameless_written : (events : List Event) (e : End) (old new : Told) → Written events e old new → Written events e (told_of old.input old.disk old.out old.err) (told_of new.input new.disk new.out new.err)
-nameless_written events e old new (inl (n, w)) = inl (n, record { out = w.out; err = w.err; out_quiet = w.out_quiet; err_quiet = w.err_quiet })
-nameless_written events e old new (inr (c, k)) = inr (
-  c,
-  record {
-    before = k.before;
-    last = k.last;
-    mid = k.mid;
-    are = k.are;
-    written = record { out = k.written.out; err = k.written.err; out_quiet = k.written.out_quiet; err_quiet = k.written.err_quiet };
-    breaks = nameless_breaks _ _ k.mid new k.breaks;
-  },
-)
-
--- a performance is one whatever the objects are called
-pub nameless : {P : Process} (s s' : State) (old new : Told) {e : End} → Performs P (at s old) e (at s' new) → Performs P (at s (told_of old.input old.disk old.out old.err)) e (at s' (told_of new.input new.disk new.out new.err))
-nameless s s' old new {e = e} p = record { events = p.events; happens = p.happens; written = nameless_written p.events e old new p.written; same = refl }
-
--- where a session does not go on it stops
-pub stops_with : (state : State) (e : End) (next : Next) → next ≡ after state e → goes_on state e ≡ false → next ≢ Go
-stops_with state e next is g n = true≢false (ap is_go (sym n) ∙ (ap is_go is ∙ g))
 
 -- a line that was recalled was done
 pub recalled_done : (line found : List ℕ) (state : State) (told : Told) {new : Moment} {e : End} → ((Ok found ≡ recalled state.past line) ⊎ LacksFor (Ok found)) → Performs (Either LacksMemory (DoesRecalled (Ok found))) (at state told) e new → Performs (DoesInput line) (at state told) e new

@@ -4,4 +4,8 @@ use Rattle.shell.specs.declared.asked.Wanted.{Wanted}
 use Rattle.shell.specs.Sessions.{Asked}
 
 abbrev pub asked_of : Wanted → Asked
-asked_of wanted = record { prompts = wanted.prompts; script = option_copied wanted.script; model = option_copied wanted.model }
+asked_of wanted = record {
+  prompts = wanted.prompts;
+  script = option_copied wanted.script;
+  model = option_copied wanted.model;
+}

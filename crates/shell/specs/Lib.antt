@@ -5,3 +5,5 @@ pub mod Lines
 pub mod Sessions
 pub mod Closing
 pub mod AskedViews
+pub mod Words
+pub mod Refused

@@ -1,55 +1,55 @@
--- The commands, by their words.
-use Rattle.std.specs.Prelude.{◌==◌, ◌&&◌, ◌||◌, ℕ, nat_lt, Bool, true, false, List, [], ◌∷◌, Option, codes, find}
-use Rattle.std.specs.Str.{bytes_eq}
+-- The commands of all topics, by their words: one case a topic.
+use Rattle.std.specs.Prelude.{ℕ, List, ◌++◌, Option, map, option_map}
+use Rattle.std.specs.Cmp.Lexicographic.{slice_cmp}
+use Rattle.std.specs.List.Sorted.{IsPermutation, IsSorted}
+use Rattle.std.specs.Option.{option_or}
+use Rattle.std.specs.Ordering.{nat_cmp}
+use Rattle.shell_model.specs.declared.log_commands.TheConstants.{LOG_COMMANDS}
+use Rattle.shell_model.specs.declared.model_commands.TheConstants.{MODEL_COMMANDS}
+use Rattle.shell_model.specs.declared.trace_commands.TheConstants.{TRACE_COMMANDS}
+use Rattle.shell_model.specs.LogCommands.{log_help, log_word}
+use Rattle.shell_model.specs.ModelCommands.{model_help, model_word}
+use Rattle.shell_model.specs.TraceCommands.{trace_help, trace_word}
+use Rattle.shell_settings.specs.declared.settings.TheConstants.{SETTINGS_COMMANDS}
+use Rattle.shell_settings.specs.Settings.{settings_help, settings_word}
+use Rattle.shell_world.specs.Rows.{with_word}
 use Rattle.shell.specs.declared.rows.Command.{Command}
 use Rattle.shell.specs.declared.rows.Command.TheVariants as command
-use Rattle.shell.specs.declared.rows.TheConstants.{COMMANDS}
+use Rattle.shell.specs.declared.topics.TheConstants.{SHELL_COMMANDS}
+use Rattle.shell.specs.Words.{shell_help, shell_word}
 
 -- the word that a command is called by
 abbrev pub word_of : Command → List ℕ
-word_of command.Alias = codes "alias"
-word_of command.CheckLog = codes "check_log"
-word_of command.Echo = codes "echo"
-word_of command.ExecuteTextTrace = codes "execute_text_trace"
-word_of command.Help = codes "help"
-word_of command.History = codes "history"
-word_of command.Quit = codes "quit"
-word_of command.ReadModel = codes "read_model"
-word_of command.Reset = codes "reset"
-word_of command.Set = codes "set"
-word_of command.Source = codes "source"
-word_of command.Unalias = codes "unalias"
-word_of command.Unset = codes "unset"
+word_of (command.Settings c) = settings_word c
+word_of (command.Model c) = model_word c
+word_of (command.Trace c) = trace_word c
+word_of (command.Log c) = log_word c
+word_of (command.Shell c) = shell_word c
 
 -- the command as a user writes it
 abbrev pub help_of : Command → List ℕ
-help_of command.Alias = codes "alias [name [words]]"
-help_of command.CheckLog = codes "check_log file"
-help_of command.Echo = codes "echo [-2] [-n] [-o file] [words]"
-help_of command.ExecuteTextTrace = codes "execute_text_trace [-c] file"
-help_of command.Help = codes "help [command]"
-help_of command.History = codes "history [n]"
-help_of command.Quit = codes "quit"
-help_of command.ReadModel = codes "read_model [-i file]"
-help_of command.Reset = codes "reset"
-help_of command.Set = codes "set [name [value]]"
-help_of command.Source = codes "source [-p] [-s] [-x] file"
-help_of command.Unalias = codes "unalias name"
-help_of command.Unset = codes "unset name"
+help_of (command.Settings c) = settings_help c
+help_of (command.Model c) = model_help c
+help_of (command.Trace c) = trace_help c
+help_of (command.Log c) = log_help c
+help_of (command.Shell c) = shell_help c
 
 -- the command of a word
 abbrev pub command_of : List ℕ → Option Command
-command_of word = find (λ c. bytes_eq (word_of c) word) COMMANDS
+command_of word =
+    option_or (option_map command.Settings (with_word settings_word SETTINGS_COMMANDS word))
+    (option_or (option_map command.Model (with_word model_word MODEL_COMMANDS word))
+    (option_or (option_map command.Trace (with_word trace_word TRACE_COMMANDS word))
+    (option_or (option_map command.Log (with_word log_word LOG_COMMANDS word))
+    (option_map command.Shell (with_word shell_word SHELL_COMMANDS word)))))
 
--- a text comes before another in the order of their bytes
-abbrev pub comes_before : List ℕ → List ℕ → Bool
-comes_before [] [] = false
-comes_before [] (b ∷ bs) = true
-comes_before (a ∷ rest) [] = false
-comes_before (a ∷ rest) (b ∷ bs) = nat_lt a b || (a == b && comes_before rest bs)
+-- the words of all topics
+abbrev pub all_words : List (List ℕ)
+all_words =
+    map settings_word SETTINGS_COMMANDS ++ map model_word MODEL_COMMANDS
+    ++ map trace_word TRACE_COMMANDS ++ map log_word LOG_COMMANDS ++ map shell_word SHELL_COMMANDS
 
--- each text comes before the next
-abbrev pub rise : List (List ℕ) → Bool
-rise [] = true
-rise (word ∷ []) = true
-rise (word ∷ next ∷ words) = comes_before word next && rise (next ∷ words)
+-- these are the words of all commands, in the order of their bytes
+pub record AreListed (words : List (List ℕ)) : Type 0 where
+  pub all : IsPermutation all_words words
+  pub rise : IsSorted (slice_cmp nat_cmp) words

@@ -22,15 +22,29 @@ use Rattle.shell_world.specs.declared.state.State.{State}
 use Rattle.shell_world.specs.Processes.{Becomes, Chain, Either, Ends, EndsSaying, ForSome, Knowing, LacksMemory, Process, Refuses, SaysIf, Then}
 use Rattle.shell_world.specs.Scenes.{Scene, goes_on}
 use Rattle.shell_world.specs.Steps.{TakesLine}
+use Rattle.shell.specs.declared.script.Script.{Script}
 use Rattle.shell.specs.Lines.{DoesLine, Sourcing}
 
 -- the line is remembered, unless it is blank
 abbrev pub remembered : List ℕ → State → State
-remembered line state = if list_all is_blank line then state else record state { past = remembering state.past line }
+remembered line state =
+    if list_all is_blank line then state else record state { past = remembering state.past line }
 
--- a line that was recalled is remembered and done; sixteen scripts may be nested in it
+-- so many scripts may be nested in a line
+abbrev pub nesting_limit : ℕ
+nesting_limit = 16
+
+-- a line of input has at most so many bytes
+abbrev pub line_limit : ℕ
+line_limit = 65536
+
+-- a session has at most so many lines of input
+abbrev pub most_lines : ℕ
+most_lines = 1000000
+
+-- a line that was recalled is remembered and done
 abbrev pub DoesRecalled : Result (List ℕ) LangFault → Process
-DoesRecalled (Ok line) = Then (Becomes (remembered line)) (DoesLine 16 line)
+DoesRecalled (Ok line) = Then (Becomes (remembered line)) (DoesLine nesting_limit line)
 DoesRecalled (Err fault) = Refuses (refusal.Language fault)
 
 -- what a line of input does
@@ -43,7 +57,7 @@ Fails faults.ReadFault = EndsSaying (event.Refused (refusal.Line faults.ReadFaul
 Fails faults.TooLong = EndsSaying (event.Refused (refusal.Line faults.TooLong)) ends.InputFailed
 Fails (faults.NoMemory e) = LacksMemory
 
--- a line after so many others: 1,000,000 may come
+-- a line after so many others
 abbrev pub DoesNth : Bool → List ℕ → Process
 DoesNth true line = EndsSaying (event.Refused refusal.TooManyLines) ends.InputFailed
 DoesNth false line = DoesInput line
@@ -51,18 +65,27 @@ DoesNth false line = DoesInput line
 -- what is done about what was read
 abbrev pub Treats : ℕ → Result Line LineFault → Process
 Treats count (Ok lines.End) = Ends ends.Quits
-Treats count (Ok (lines.Line line)) = DoesNth (count == 1000000) line
+Treats count (Ok (lines.Line line)) = DoesNth (count == most_lines) line
 Treats count (Err fault) = Fails fault
 
 -- after so many lines, a prompt where they are wanted, and the next line
 abbrev pub Turn : Bool → ℕ → Process
 Turn prompts count =
-    Then (SaysIf prompts (event.Shell shell.Prompt)) (ForSome (λ answer. Then (TakesLine 65536 answer) (Treats count answer)))
+    Then (SaysIf prompts (event.Shell shell.Prompt))
+    (ForSome (λ answer. Then (TakesLine line_limit answer) (Treats count answer)))
 
 -- the turns of a session after so many lines, up to the one that does not go on
 pub data Turns (prompts : Bool) : ℕ → Scene → List Event → End → Scene → Type 0 where
-  stops : (count : ℕ) (old : Scene) (events : List Event) (end : End) (new : Scene) → Turn prompts count old events end new → goes_on new.state end ≡ false → Turns prompts count old events end new
-  goes : (count : ℕ) (old : Scene) (first : List Event) (end : End) (mid : Scene) (others : List Event) (last : End) (new : Scene) → Turn prompts count old first end mid → goes_on mid.state end ≡ true → Turns prompts (count + 1) mid others last new → Turns prompts count old (first ++ others) last new
+  stops : (count : ℕ) (old : Scene) (events : List Event) (end : End) (new : Scene)
+      → Turn prompts count old events end new
+      → goes_on new.state end ≡ false
+      → Turns prompts count old events end new
+  goes : (count : ℕ) (old : Scene) (first : List Event) (end : End) (mid : Scene)
+      (others : List Event) (last : End) (new : Scene)
+      → Turn prompts count old first end mid
+      → goes_on mid.state end ≡ true
+      → Turns prompts (count + 1) mid others last new
+      → Turns prompts count old (first ++ others) last new
 
 -- what the words of the program ask for: prompts, a script that is done first, and the model's file
 pub record Asked : Type 0 where
@@ -79,15 +102,18 @@ abbrev pub with_prompts : Asked → Option Asked
 with_prompts asked = if asked.prompts then None else Some (record asked { prompts = true })
 
 abbrev pub with_script : Asked → List ℕ → Option Asked
-with_script asked file = if is_some asked.script then None else Some (record asked { script = Some file })
+with_script asked file =
+    if is_some asked.script then None else Some (record asked { script = Some file })
 
 abbrev pub with_model_file : Asked → List ℕ → Option Asked
 with_model_file asked file =
-    if begins_with_dash file then None else (if is_some asked.model then None else Some (record asked { model = Some file }))
+    if begins_with_dash file then None
+    else (if is_some asked.model then None else Some (record asked { model = Some file }))
 
 -- one word, with no script behind it
 abbrev pub with_word : Asked → List ℕ → Option Asked
-with_word asked word = if bytes_eq word (codes "-int") then with_prompts asked else with_model_file asked word
+with_word asked word =
+    if bytes_eq word (codes "-int") then with_prompts asked else with_model_file asked word
 
 abbrev pub asked_by : Option Asked → List (List ℕ) → Option Asked
 asked_by None words = None
@@ -102,10 +128,14 @@ abbrev pub Follows : Bool → Process
 Follows true = Turns true 0
 Follows false = Ends ends.Quits
 
+-- a script with none of the options of `source`
+abbrev pub plain_script : List ℕ → Script
+plain_script file = record { file = file; prompts = false; lenient = false; shows = false }
+
 abbrev pub Starts : Bool → Option (List ℕ) → Process
 Starts prompts None = Turns prompts 0
 Starts prompts (Some file) =
-    Chain goes_on (Sourcing 16 (record { file = file; prompts = false; lenient = false; shows = false })) (Follows prompts)
+    Chain goes_on (Sourcing nesting_limit (plain_script file)) (Follows prompts)
 
 -- the variable `input_file` names the model's file
 abbrev pub naming : Option (List ℕ) → State → State
@@ -114,7 +144,8 @@ naming (Some file) state = record state { vars = with_name state.vars (codes "in
 
 abbrev pub SessionAsked : Option Asked → Process
 SessionAsked None = EndsSaying event.Usage ends.Misused
-SessionAsked (Some asked) = Either LacksMemory (Then (Becomes (naming asked.model)) (Starts asked.prompts asked.script))
+SessionAsked (Some asked) =
+    Either LacksMemory (Then (Becomes (naming asked.model)) (Starts asked.prompts asked.script))
 
 -- a session of these words
 abbrev pub Session : List (List ℕ) → Process

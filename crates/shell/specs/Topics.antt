@@ -1,17 +1,16 @@
--- The commands of the shell itself that need no script: `help` and `quit`.
+-- The commands of the shell itself that need no script and no file: `help`, `quit` and `reset`.
 use Rattle.std.specs.Prelude.{ℕ, List, [], ◌∷◌, Option, Some, None}
-use Rattle.cmd_table.specs.declared.commands.TheConstants.{HELP, QUIT, RESET}
 use Rattle.shell_world.specs.declared.end.End.TheVariants as ends
 use Rattle.shell_world.specs.declared.event.Event.TheVariants as event
 use Rattle.shell_world.specs.declared.event.ShellEvent.TheVariants as shell
 use Rattle.shell_world.specs.declared.refusal.Refusal.TheVariants as refusal
 use Rattle.shell_world.specs.declared.state.State.{State}
-use Rattle.shell_world.specs.Processes.{Becomes, Each, Ends, MayLack, Process, Refuses, Says}
+use Rattle.shell_world.specs.Processes.{Becomes, Each, Ends, ForSome, MayLack, Process, Refuses, Says, Where}
+use Rattle.shell_world.specs.Rows.{WithRow}
 use Rattle.shell_world.specs.Scenes.{goes_along}
-use Rattle.shell_world.specs.Steps.{WithOptions}
 use Rattle.shell.specs.declared.rows.Command.{Command}
-use Rattle.shell.specs.declared.rows.TheConstants.{COMMANDS}
-use Rattle.shell.specs.Rows.{command_of, help_of, word_of}
+use Rattle.shell.specs.declared.topics.TheConstants.{HELP, QUIT, RESET}
+use Rattle.shell.specs.Rows.{AreListed, command_of, help_of}
 
 -- a line of help
 abbrev pub HelpsLine : List ℕ → Process
@@ -19,7 +18,8 @@ HelpsLine line = MayLack (Says (event.Shell (shell.Help line)))
 
 -- the words of all commands, a line each
 abbrev pub HelpsAll : Process
-HelpsAll = Each goes_along (λ c. HelpsLine (word_of c)) COMMANDS
+HelpsAll =
+    MayLack (ForSome (λ words. Where (AreListed words) (Each goes_along HelpsLine words)))
 
 -- a word that is no command
 abbrev pub NamesNoCommand : List ℕ → Process
@@ -35,14 +35,14 @@ HelpsWith [] = HelpsAll
 HelpsWith (word ∷ words) = HelpsOn word (command_of word)
 
 abbrev pub Helps : List (List ℕ) → Process
-Helps words = WithOptions HELP words (λ given. HelpsWith given.rest)
+Helps words = WithRow HELP words (λ given. HelpsWith given.rest)
 
 abbrev pub Leaves : List (List ℕ) → Process
-Leaves words = WithOptions QUIT words (λ given. Ends ends.Quits)
+Leaves words = WithRow QUIT words (λ given. Ends ends.Quits)
 
 -- the model is dropped; variables, aliases and remembered lines stay
 abbrev pub without_model : State → State
 without_model state = record state { model = None }
 
 abbrev pub Resets : List (List ℕ) → Process
-Resets words = WithOptions RESET words (λ given. Becomes without_model)
+Resets words = WithRow RESET words (λ given. Becomes without_model)

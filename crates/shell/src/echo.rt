@@ -1,14 +1,13 @@
 ghost use Rattle.std.specs.Prelude.{◌≡◌, IfOk};
-ghost use Rattle.cmd_table.specs.Options.{value_at};
-ghost use Rattle.shell.specs.Echo.{Echoes, EchoesTo, echo_side, echoed};
+ghost use Rattle.shell.specs.Echo.{Echoes, EchoesTo, echo_file, echo_side, echoed};
 ghost use Rattle.shell_world.specs.Processes.{MayLack};
 ghost use Rattle.shell_world.specs.Written.{Does};
 
-use cmd_table::commands::ECHO;
-use cmd_table::{Given, read_options};
+use crate::topics::ECHO;
+use cmd_table::Given;
 use outside::{Text, Words};
 use shell_world::{
-    End, Event, Outside, Refusal, ShellEvent, Side, State, join, refuse, say, store_file,
+    End, Event, Outside, Refusal, ShellEvent, Side, State, join, read_row, refuse, say, store_file,
 };
 use std::alloc::{AllocError, Global};
 
@@ -43,7 +42,7 @@ fn echo_side(given: &Given) -> Side
 
 // Writes the words to the file that is given, or to their side.
 fn echo_given<W: Outside>(alloc: Global, state: &State, world: &mut W, given: &Given) -> End
-    ensures { Does W.told (MayLack (EchoesTo given.now (value_at given.now.values 2)))
+    ensures { Does W.told (MayLack (EchoesTo given.now (echo_file given.now)))
         state.now world.old result state.now world.new }
 {
     let Ok(text) = echoed(alloc, given) else {
@@ -62,8 +61,8 @@ fn echo_given<W: Outside>(alloc: Global, state: &State, world: &mut W, given: &G
 pub(crate) fn do_echo<W: Outside>(alloc: Global, state: &State, world: &mut W, words: &Words) -> End
     ensures { Does W.told (Echoes words.now) state.now world.old result state.now world.new }
 {
-    match read_options(alloc, &ECHO, words) {
+    match read_row(alloc, state, &ECHO, words) {
         Ok(given) => echo_given(alloc, state, world, &given),
-        Err(fault) => refuse(state, world, Refusal::Options(fault)),
+        Err(refusal) => refuse(state, world, refusal),
     }
 }

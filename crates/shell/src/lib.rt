@@ -7,6 +7,7 @@
 mod asked;
 mod echo;
 mod input;
+mod laws;
 mod lines;
 mod no_input;
 mod rows;
@@ -16,7 +17,9 @@ mod session;
 mod text;
 mod topics;
 
-pub use rows::{COMMANDS, Command, commands_are_listed};
+pub use laws::refused_line_changes_nothing;
+pub use rows::{Command, commands_are_listed};
 pub use run::{run_shell, run_sound};
 pub use session::Session;
 pub use shell_world::Next;
+pub use topics::ShellCommand;

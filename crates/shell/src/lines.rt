@@ -1,27 +1,33 @@
 //! What a line does: its commands, and in them the lines of scripts.
 ghost use Rattle.std.specs.Prelude.{◌≡◌, IfOk, Ok};
 ghost use Rattle.shell_world.specs.Processes.{Each};
-ghost use Rattle.shell_world.specs.Scenes.{goes_along, goes_on};
+ghost use Rattle.shell_world.specs.Scenes.{goes_along};
 ghost use Rattle.shell_world.specs.Written.{Does};
-ghost use Rattle.shell.specs.Lines.{DoesAny, DoesCommand, DoesLine, DoesNamed, DoesScriptLine, DoesSource, DoesWords, LacksScript, RefusesLine, ShowsScriptLine, Sourcing, given_script, script_lines};
+ghost use Rattle.shell.specs.Lines.{DoesAny, DoesCommand, DoesLine, DoesNamed, DoesScriptLine, DoesScriptLines, DoesShell, DoesSource, DoesWords, LacksScript, RefusesLine, ShowsScriptLine, Sourcing, given_script};
 ghost use Rattle.shell.specs.Rows.{command_of};
 
 use crate::echo::do_echo;
 use crate::rows::{Command, command_of};
 use crate::script::Script;
 use crate::text::first_line;
-use crate::topics::{do_help, do_quit, do_reset, no_command};
-use cmd_table::commands::SOURCE;
-use cmd_table::{Given, read_options};
+use crate::topics::{SOURCE, ShellCommand, do_help, do_quit, do_reset, no_command};
+use cmd_table::Given;
 use outside::{FileFault, Text, Words};
 use shell_lang::{Command as Pieces, LangFault, expand, split_line};
-use shell_model::{do_check_log, do_execute_text_trace, do_read_model};
-use shell_settings::{do_alias, do_history, do_set, do_unalias, do_unset};
+use shell_model::{do_log, do_model, do_trace};
+use shell_settings::do_settings;
 use shell_world::{
-    End, Event, Outside, Refusal, ShellEvent, State, lack_memory, read_file, refuse, refuse_file,
-    say, say_if,
+    End, Event, Outside, Refusal, ShellEvent, State, lack_memory, read_file, read_row, refuse,
+    refuse_file, say, say_if,
 };
 use std::alloc::{AllocError, Global};
+
+// The places of the options of `source` in their row.
+const PROMPTS: usize = 0;
+
+const LENIENT: usize = 1;
+
+const SHOWS: usize = 2;
 
 /// A script has at most so many bytes.
 const SCRIPT_LIMIT: usize = 4_194_304;
@@ -138,7 +144,7 @@ fn do_any<W: Outside>(
     }
 }
 
-// A command by its name.
+// A command by its topic.
 #[cycle(lines)]
 fn do_named<W: Outside>(
     alloc: Global,
@@ -153,19 +159,34 @@ fn do_named<W: Outside>(
     ensures past { state.new.past ≡ state.old.past }
 {
     match command {
-        Command::Alias => do_alias(alloc, state, world, words),
-        Command::CheckLog => do_check_log(alloc, state, world, words),
-        Command::Echo => do_echo(alloc, state, world, words),
-        Command::ExecuteTextTrace => do_execute_text_trace(alloc, state, world, words),
-        Command::Help => do_help(alloc, state, world, words),
-        Command::History => do_history(alloc, state, world, words),
-        Command::Quit => do_quit(alloc, state, world, words),
-        Command::ReadModel => do_read_model(alloc, state, world, words),
-        Command::Reset => do_reset(alloc, state, world, words),
-        Command::Set => do_set(alloc, state, world, words),
-        Command::Source => do_source(alloc, state, world, depth, words),
-        Command::Unalias => do_unalias(alloc, state, world, words),
-        Command::Unset => do_unset(alloc, state, world, words),
+        Command::Settings(command) => do_settings(alloc, state, world, command, words),
+        Command::Model(command) => do_model(alloc, state, world, command, words),
+        Command::Trace(command) => do_trace(alloc, state, world, command, words),
+        Command::Log(command) => do_log(alloc, state, world, command, words),
+        Command::Shell(command) => do_shell(alloc, state, world, depth, command, words),
+    }
+}
+
+// A command of the shell itself.
+#[cycle(lines)]
+fn do_shell<W: Outside>(
+    alloc: Global,
+    state: &mut State,
+    world: &mut W,
+    depth: u32,
+    command: ShellCommand,
+    words: &Words,
+) -> End
+    ensures does { Does W.told (DoesShell (Sourcing depth) command words.now)
+        state.old world.old result state.new world.new }
+    ensures past { state.new.past ≡ state.old.past }
+{
+    match command {
+        ShellCommand::Echo => do_echo(alloc, state, world, words),
+        ShellCommand::Help => do_help(alloc, state, world, words),
+        ShellCommand::Quit => do_quit(alloc, state, world, words),
+        ShellCommand::Reset => do_reset(alloc, state, world, words),
+        ShellCommand::Source => do_source(alloc, state, world, depth, words),
     }
 }
 
@@ -182,9 +203,9 @@ fn do_source<W: Outside>(
         state.old world.old result state.new world.new }
     ensures past { state.new.past ≡ state.old.past }
 {
-    let given = match read_options(alloc, &SOURCE, words) {
+    let given = match read_row(alloc, state, &SOURCE, words) {
         Ok(given) => given,
-        Err(fault) => return refuse(state, world, Refusal::Options(fault)),
+        Err(refusal) => return refuse(state, world, refusal),
     };
     let script = match script_given(alloc, &given) {
         Ok(script) => script,
@@ -203,9 +224,9 @@ fn script_given(alloc: Global, given: &Given) -> Result<Option<Script>, AllocErr
     match given.rest.as_slice().first() {
         Some(file) => Ok(Some(Script {
             file: file.copy(alloc)?,
-            prompts: given.values.get(0).is_some(),
-            lenient: given.values.get(1).is_some(),
-            shows: given.values.get(2).is_some(),
+            prompts: given.values.get(PROMPTS).is_some(),
+            lenient: given.values.get(LENIENT).is_some(),
+            shows: given.values.get(SHOWS).is_some(),
         })),
         None => Ok(None),
     }
@@ -243,7 +264,7 @@ fn do_script_lines<W: Outside>(
     script: &Script,
     text: &[u8],
 ) -> End
-    ensures does { Does W.told (Each goes_on (DoesScriptLine (DoesLine depth) script.now) (script_lines text.now))
+    ensures does { Does W.told (DoesScriptLines (DoesLine depth) script.now text.now)
         state.old world.old result state.new world.new }
     ensures past { state.new.past ≡ state.old.past }
 {

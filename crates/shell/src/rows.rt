@@ -1,81 +1,51 @@
-ghost use Rattle.std.specs.Prelude.{◌≡◌, IsTrue, Some, map};
+ghost use Rattle.std.specs.Prelude.{◌≡◌, IfOk, Some};
 ghost use Rattle.shell.specs.declared.rows.Command.{Command};
-ghost use Rattle.shell.specs.Rows.{command_of, help_of, rise, word_of};
+ghost use Rattle.shell.specs.Rows.{AreListed, command_of, word_of};
 
-/// The commands of the shell.
+use crate::topics::{SHELL_COMMANDS, ShellCommand};
+use outside::Text;
+use shell_model::{
+    LOG_COMMANDS, LogCommand, MODEL_COMMANDS, ModelCommand, TRACE_COMMANDS, TraceCommand,
+};
+use shell_settings::{SETTINGS_COMMANDS, SettingsCommand};
+use shell_world::{Listed, find_word, put_words};
+use std::alloc::{AllocError, Global};
+
+/// A command, by its topic.
 #[derive(Clone, Copy, Debug, PartialEq, Eq)]
 pub enum Command {
-    Alias,
-    CheckLog,
-    Echo,
-    ExecuteTextTrace,
-    Help,
-    History,
-    Quit,
-    ReadModel,
-    Reset,
-    Set,
-    Source,
-    Unalias,
-    Unset,
+    Settings(SettingsCommand),
+    Model(ModelCommand),
+    Trace(TraceCommand),
+    Log(LogCommand),
+    Shell(ShellCommand),
 }
 
-/// All commands, in the byte order of their words.
-pub const COMMANDS: [Command; 13] = [
-    Command::Alias,
-    Command::CheckLog,
-    Command::Echo,
-    Command::ExecuteTextTrace,
-    Command::Help,
-    Command::History,
-    Command::Quit,
-    Command::ReadModel,
-    Command::Reset,
-    Command::Set,
-    Command::Source,
-    Command::Unalias,
-    Command::Unset,
-];
+impl Listed for Command {
+    ghost use Rattle.shell.specs.Rows.{help_of, word_of};
 
-/// The word that a command is called by.
-pub(crate) fn word_of(command: Command) -> &'static [u8]
-    ensures { result.now ≡ word_of command }
-{
-    match command {
-        Command::Alias => b"alias",
-        Command::CheckLog => b"check_log",
-        Command::Echo => b"echo",
-        Command::ExecuteTextTrace => b"execute_text_trace",
-        Command::Help => b"help",
-        Command::History => b"history",
-        Command::Quit => b"quit",
-        Command::ReadModel => b"read_model",
-        Command::Reset => b"reset",
-        Command::Set => b"set",
-        Command::Source => b"source",
-        Command::Unalias => b"unalias",
-        Command::Unset => b"unset",
+    ghost word = { word_of };
+
+    ghost help = { help_of };
+
+    fn word(self) -> &'static [u8] {
+        match self {
+            Command::Settings(command) => command.word(),
+            Command::Model(command) => command.word(),
+            Command::Trace(command) => command.word(),
+            Command::Log(command) => command.word(),
+            Command::Shell(command) => command.word(),
+        }
     }
-}
 
-/// The command as a user writes it.
-pub(crate) fn help_of(command: Command) -> &'static [u8]
-    ensures { result.now ≡ help_of command }
-{
-    match command {
-        Command::Alias => b"alias [name [words]]",
-        Command::CheckLog => b"check_log file",
-        Command::Echo => b"echo [-2] [-n] [-o file] [words]",
-        Command::ExecuteTextTrace => b"execute_text_trace [-c] file",
-        Command::Help => b"help [command]",
-        Command::History => b"history [n]",
-        Command::Quit => b"quit",
-        Command::ReadModel => b"read_model [-i file]",
-        Command::Reset => b"reset",
-        Command::Set => b"set [name [value]]",
-        Command::Source => b"source [-p] [-s] [-x] file",
-        Command::Unalias => b"unalias name",
-        Command::Unset => b"unset name",
+    fn help(self) -> &'static [u8] {
+        match self {
+            Command::Settings(command) => command.help(),
+            Command::Model(command) => command.help(),
+            Command::Trace(command) => command.help(),
+            Command::Log(command) => command.help(),
+            Command::Shell(command) => command.help(),
+        }
     }
 }
 
@@ -83,14 +53,43 @@ pub(crate) fn help_of(command: Command) -> &'static [u8]
 pub(crate) fn command_of(word: &[u8]) -> Option<Command>
     ensures { result ≡ command_of word.now }
 {
-    COMMANDS
-        .iter()
-        .copied()
-        .find(|command| word_of(*command) == word)
+    if let Some(command) = find_word(&SETTINGS_COMMANDS, word) {
+        return Some(Command::Settings(command));
+    }
+    if let Some(command) = find_word(&MODEL_COMMANDS, word) {
+        return Some(Command::Model(command));
+    }
+    if let Some(command) = find_word(&TRACE_COMMANDS, word) {
+        return Some(Command::Trace(command));
+    }
+    if let Some(command) = find_word(&LOG_COMMANDS, word) {
+        return Some(Command::Log(command));
+    }
+    if let Some(command) = find_word(&SHELL_COMMANDS, word) {
+        return Some(Command::Shell(command));
+    }
+    None
 }
 
-/// Each command is found by its word, and the words rise in byte order.
+/// The words of all commands, in the order of their bytes.
+///
+/// # Errors
+///
+/// `AllocError` where memory is refused.
+pub(crate) fn all_words(alloc: Global) -> Result<Vec<Text>, AllocError>
+    ensures { IfOk result (λ words. AreListed words.items) }
+{
+    let mut words = Vec::new(alloc);
+    put_words(alloc, &mut words, &SETTINGS_COMMANDS)?;
+    put_words(alloc, &mut words, &MODEL_COMMANDS)?;
+    put_words(alloc, &mut words, &TRACE_COMMANDS)?;
+    put_words(alloc, &mut words, &LOG_COMMANDS)?;
+    put_words(alloc, &mut words, &SHELL_COMMANDS)?;
+    words.sort()?;
+    Ok(words)
+}
+
+/// Each command is found by its word, so no two have one word.
 pub fn commands_are_listed()
-    ensures found { (c : Command) → command_of (word_of c) ≡ Some c }
-    ensures rising { IsTrue (rise (map word_of COMMANDS)) }
+    ensures { (c : Command) → command_of (word_of c) ≡ Some c }
 {}

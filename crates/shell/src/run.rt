@@ -15,8 +15,9 @@ use crate::script::Script;
 use outside::{
     Files, Line, LineFault, NullSink, Sink, SoundFiles, SoundSource, Source, Text, Words,
 };
+use shell_model::set_input_file;
 use shell_world::{
-    End, Event, Next, Outside, Refusal, ShellEvent, State, World, end_saying, lack_memory,
+    End, Event, Next, Outside, Refusal, ShellEvent, State, World, copy_of, end_saying, lack_memory,
     read_line, say_if,
 };
 use std::alloc::{AllocError, Global};
@@ -148,21 +149,7 @@ fn name_model(alloc: Global, state: &mut State, file: Option<&Text>) -> Result<(
     let Some(file) = file else {
         return Ok(());
     };
-    let name = Text::from_slice(alloc, b"input_file")?;
-    match state.vars.set(&name, file) {
-        Ok(()) => Ok(()),
-        Err(_) => Err(AllocError),
-    }
-}
-
-// A copy of a text, if there is one.
-fn copy_of(alloc: Global, text: Option<&Text>) -> Result<Option<Text>, AllocError>
-    ensures { IfOk result (λ copy. copy ≡ option_copied text.entry) }
-{
-    match text {
-        Some(text) => Ok(Some(text.copy(alloc)?)),
-        None => Ok(None),
-    }
+    set_input_file(alloc, &mut state.vars, file)
 }
 
 // A session that is asked for by right words.
@@ -184,7 +171,8 @@ fn open<W: Outside>(alloc: Global, state: &mut State, world: &mut W, wanted: Wan
 // Tells an event before there is a session; it stays with the caller.
 fn tell_fresh<W: Outside>(world: &mut W, event: &Event, wanted: End) -> End
     requires { wanted ≢ ends.Cut }
-    ensures does { Does W.told (EndsSaying event.now wanted) fresh world.old result fresh world.new }
+    ensures does { Does W.told (EndsSaying event.now wanted)
+        fresh world.old result fresh world.new }
     ensures ended { (result ≡ wanted) ⊎ (result ≡ ends.Cut) }
 {
     match world.tell(event) {
@@ -265,7 +253,8 @@ pub fn run_shell<R: Source, F: Files, O: Sink, E: Sink, L: Ledger>(
     steps: &mut Steps<L>,
 ) -> u8
     // What happened is a session of these words, and it was written as it happened.
-    ensures session { Closes (told_of (R.told input.old) (F.told files.old) (O.told out.old) (E.told err.old))
+    ensures session { Closes
+        (told_of (R.told input.old) (F.told files.old) (O.told out.old) (E.told err.old))
         (SessionOf words.now) result
         (told_of (R.told input.new) (F.told files.new) (O.told out.new) (E.told err.new)) }
     ensures steps { steps.new ≡ steps.old }
@@ -286,8 +275,8 @@ pub fn run_shell<R: Source, F: Files, O: Sink, E: Sink, L: Ledger>(
     status
 }
 
-/// A session over objects that never fail, with nothing kept of what is written: it does not end with
-/// 4, the status of a sink that failed.
+/// A session over objects that never fail, with nothing kept of what is written: it does not end
+/// with 4, the status of a sink that failed.
 pub fn run_sound<L: Ledger>(
     alloc: Global,
     words: &Words,

@@ -1,6 +1,6 @@
 ghost use Rattle.std.specs.Prelude.{◌≡◌, ◌<◌, IfOk};
 ghost use Rattle.shell_world.specs.Scenes.{fresh};
-ghost use Rattle.shell.specs.Closing.{StepsLine, told_of};
+ghost use Rattle.shell.specs.Closing.{StepsLine, no_input, told_of};
 ghost use Rattle.shell.specs.Sessions.{DoesInput};
 
 use crate::input::do_input;
@@ -58,8 +58,10 @@ impl Session {
         steps: &mut Steps<L>,
     ) -> Next
         requires { self.old.past.count < 1000000 }
-        ensures line { StepsLine (F.told files.old) (O.told out.old) (E.told err.old) self.old line.now result
-            self.new (F.told files.new) (O.told out.new) (E.told err.new) }
+        ensures line { StepsLine
+            (told_of no_input (F.told files.old) (O.told out.old) (E.told err.old))
+            self.old line.now result self.new
+            (told_of no_input (F.told files.new) (O.told out.new) (E.told err.new)) }
         ensures steps { steps.new ≡ steps.old }
     {
         let mut input = NoInput;

@@ -1,14 +1,89 @@
 ghost use Rattle.std.specs.Prelude.{◌≡◌};
+ghost use Rattle.shell_world.specs.Processes.{Each};
+ghost use Rattle.shell_world.specs.Scenes.{goes_along};
 ghost use Rattle.shell_world.specs.Written.{Does};
 ghost use Rattle.shell.specs.Rows.{command_of};
 ghost use Rattle.shell.specs.Topics.{Helps, HelpsAll, HelpsLine, HelpsOn, HelpsWith, Leaves, NamesNoCommand, Resets, without_model};
 
-use crate::rows::{COMMANDS, Command, command_of, help_of, word_of};
-use cmd_table::commands::{HELP, QUIT, RESET};
-use cmd_table::read_options;
+use crate::rows::{all_words, command_of};
+use cmd_table::commands;
 use outside::{Text, Words};
-use shell_world::{End, Event, Outside, Refusal, ShellEvent, State, refuse, say};
+use shell_world::{
+    End, Event, Listed, Outside, Phase, Refusal, Row, ShellEvent, State, read_row, refuse, say,
+};
 use std::alloc::Global;
+
+/// The commands of the shell itself.
+#[derive(Clone, Copy, Debug, PartialEq, Eq)]
+pub enum ShellCommand {
+    Echo,
+    Help,
+    Quit,
+    Reset,
+    Source,
+}
+
+/// All of them.
+pub const SHELL_COMMANDS: [ShellCommand; 5] = [
+    ShellCommand::Echo,
+    ShellCommand::Help,
+    ShellCommand::Quit,
+    ShellCommand::Reset,
+    ShellCommand::Source,
+];
+
+impl Listed for ShellCommand {
+    ghost use Rattle.shell.specs.Words.{shell_help, shell_word};
+
+    ghost word = { shell_word };
+
+    ghost help = { shell_help };
+
+    fn word(self) -> &'static [u8] {
+        match self {
+            ShellCommand::Echo => b"echo",
+            ShellCommand::Help => b"help",
+            ShellCommand::Quit => b"quit",
+            ShellCommand::Reset => b"reset",
+            ShellCommand::Source => b"source",
+        }
+    }
+
+    fn help(self) -> &'static [u8] {
+        match self {
+            ShellCommand::Echo => b"echo [-2] [-n] [-o file] [words]",
+            ShellCommand::Help => b"help [command]",
+            ShellCommand::Quit => b"quit",
+            ShellCommand::Reset => b"reset",
+            ShellCommand::Source => b"source [-p] [-s] [-x] file",
+        }
+    }
+}
+
+pub const ECHO: Row<3> = Row {
+    table: commands::ECHO,
+    needs: Phase::Start,
+};
+
+pub const HELP: Row<0> = Row {
+    table: commands::HELP,
+    needs: Phase::Start,
+};
+
+pub const QUIT: Row<0> = Row {
+    table: commands::QUIT,
+    needs: Phase::Start,
+};
+
+pub const RESET: Row<0> = Row {
+    table: commands::RESET,
+    needs: Phase::Start,
+};
+
+pub const SOURCE: Row<3> = Row {
+    table: commands::SOURCE,
+    needs: Phase::Start,
+};
 
 // Writes a line of help.
 fn help_line<W: Outside>(alloc: Global, state: &State, world: &mut W, line: &[u8]) -> End
@@ -20,17 +95,28 @@ fn help_line<W: Outside>(alloc: Global, state: &State, world: &mut W, line: &[u8
     }
 }
 
-// Writes the words of all commands.
-fn help_all<W: Outside>(alloc: Global, state: &State, world: &mut W) -> End
-    ensures { Does W.told HelpsAll state.now world.old result state.now world.new }
+// Writes these words.
+fn help_words<W: Outside>(alloc: Global, state: &State, world: &mut W, words: &[Text]) -> End
+    ensures { Does W.told (Each goes_along HelpsLine words.now)
+        state.now world.old result state.now world.new }
 {
-    for command in &COMMANDS {
-        let end = help_line(alloc, state, world, word_of(*command));
+    for word in words {
+        let end = help_line(alloc, state, world, word.as_slice());
         if !state.goes_along(end) {
             return end;
         }
     }
     End::Went
+}
+
+// Writes the words of all commands.
+fn help_all<W: Outside>(alloc: Global, state: &State, world: &mut W) -> End
+    ensures { Does W.told HelpsAll state.now world.old result state.now world.new }
+{
+    match all_words(alloc) {
+        Ok(words) => help_words(alloc, state, world, words.as_slice()),
+        Err(_) => refuse(state, world, Refusal::NoMemory),
+    }
 }
 
 // Writes how a command is written.
@@ -39,7 +125,7 @@ fn help_on<W: Outside>(alloc: Global, state: &State, world: &mut W, word: &Text)
         state.now world.old result state.now world.new }
 {
     match command_of(word.as_slice()) {
-        Some(command) => help_line(alloc, state, world, help_of(command)),
+        Some(command) => help_line(alloc, state, world, command.help()),
         None => no_command(alloc, state, world, word),
     }
 }
@@ -73,9 +159,9 @@ fn help_with<W: Outside>(alloc: Global, state: &State, world: &mut W, words: &[T
 pub(crate) fn do_help<W: Outside>(alloc: Global, state: &State, world: &mut W, words: &Words) -> End
     ensures { Does W.told (Helps words.now) state.now world.old result state.now world.new }
 {
-    match read_options(alloc, &HELP, words) {
+    match read_row(alloc, state, &HELP, words) {
         Ok(given) => help_with(alloc, state, world, given.rest.as_slice()),
-        Err(fault) => refuse(state, world, Refusal::Options(fault)),
+        Err(refusal) => refuse(state, world, refusal),
     }
 }
 
@@ -83,9 +169,9 @@ pub(crate) fn do_help<W: Outside>(alloc: Global, state: &State, world: &mut W, w
 pub(crate) fn do_quit<W: Outside>(alloc: Global, state: &State, world: &mut W, words: &Words) -> End
     ensures { Does W.told (Leaves words.now) state.now world.old result state.now world.new }
 {
-    match read_options(alloc, &QUIT, words) {
+    match read_row(alloc, state, &QUIT, words) {
         Ok(_) => End::Quits,
-        Err(fault) => refuse(state, world, Refusal::Options(fault)),
+        Err(refusal) => refuse(state, world, refusal),
     }
 }
 
@@ -99,12 +185,12 @@ pub(crate) fn do_reset<W: Outside>(
     ensures does { Does W.told (Resets words.now) state.old world.old result state.new world.new }
     ensures past { state.new.past ≡ state.old.past }
 {
-    match read_options(alloc, &RESET, words) {
+    match read_row(alloc, state, &RESET, words) {
         Ok(_) => {
             drop_model(state);
             End::Went
         }
-        Err(fault) => refuse(state, world, Refusal::Options(fault)),
+        Err(refusal) => refuse(state, world, refusal),
     }
 }
 

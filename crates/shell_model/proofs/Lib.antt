@@ -1,5 +1,5 @@
-pub mod Keeping
 pub mod LogLemmas
 pub mod ModelLemmas
 pub mod TraceLemmas
 pub mod RefusedLaws
+pub mod PastKept

@@ -15,7 +15,7 @@ use Rattle.shell_world.specs.Texts.{refusal_number}
 use Rattle.shell_world.specs.Written.{Performs}
 use Rattle.shell_world.proofs.Combining.{lacked, lacked_not}
 use Rattle.shell_world.proofs.Performing.{here, some}
-use Rattle.shell_model.specs.LogCommands.{ChecksText, IsChecked, TellsLog}
+use Rattle.shell_model.specs.LogCommands.{ChecksText, IsChecked}
 
 -- a log was told
 pub log_told : (text : List ℕ) (said : LogEvent) {old new : Moment} {e : End} → IsChecked text (Ok said) → Performs (Says (Log said)) old e new → Performs (ChecksText text) old e new

@@ -1,9 +1,8 @@
 -- What reading a model comes to.
-use Rattle.std.proofs.Common.{◌≡◌, ◌≤◌, ℕ, List, length, refl, ap, sym, ◌∙◌, subst}
+use Rattle.std.proofs.Common.{◌≡◌, ◌≤◌, ℕ, List, length, refl, sym, subst}
 use Rattle.std.specs.Prelude.{Option, None, Some, Ok, Err, codes}
 use Rattle.std.specs.Option.{option_or}
 use Rattle.cmd_table.specs.declared.fault.OptFault.TheVariants.{Required}
-use Rattle.shell_lang.specs.Keyed.{with_name}
 use Rattle.smv_tree.specs.declared.program.Program.{Program}
 use Rattle.bool_replay.specs.declared.load.ModelFault.{ModelFault}
 use Rattle.bool_replay.specs.Verdicts.{ModelOf}
@@ -17,7 +16,7 @@ use Rattle.shell_world.specs.Steps.{ReadsWhole, WithFile}
 use Rattle.shell_world.specs.Written.{Performs}
 use Rattle.shell_world.proofs.Combining.{lacked, lacked_not}
 use Rattle.shell_world.proofs.Performing.{became, here, known, some}
-use Rattle.shell_model.specs.ModelCommands.{KeepsRead, ReadsBy, ReadsModel, ReadsNamed, TakesText, input_file, model_limit, model_refusal, with_read}
+use Rattle.shell_model.specs.ModelCommands.{ReadsBy, ReadsModel, ReadsNamed, TakesText, input_file, model_limit, model_refusal, with_read}
 
 -- a text that was read is within its limit
 pub within_limit : (limit : ℕ) (name text : List ℕ) {old new : Moment} {e : End} → Performs (ReadsWhole limit name (Ok text)) old e new → length text ≤ limit

@@ -1,6 +1,6 @@
 -- What executing a trace comes to.
-use Rattle.std.proofs.Common.{◌≡◌, ℕ, List, true, false, refl, ap, sym, ◌∙◌, subst}
-use Rattle.std.specs.Prelude.{Option, None, Some, Ok, Err}
+use Rattle.std.proofs.Common.{◌≡◌, ℕ, List, true, false, refl, sym, subst}
+use Rattle.std.specs.Prelude.{None, Some, Ok, Err}
 use Rattle.smv_tree.specs.declared.program.Program.{Program}
 use Rattle.smv_tree.specs.Models.{bodies}
 use Rattle.bool_replay.specs.declared.load.ModelFault.{ModelFault}
@@ -15,7 +15,7 @@ use Rattle.shell_world.specs.Written.{Performs}
 use Rattle.shell_world.proofs.Combining.{lacked_not}
 use Rattle.shell_world.proofs.Performing.{became, here, known, led, some, stopped}
 use Rattle.shell_model.specs.ModelCommands.{input_file, model_refusal}
-use Rattle.shell_model.specs.TraceCommands.{Executes, ExecutesFrom, ExecutesOn, ExecutesOnText, ExecutesWith, JudgesFile, JudgesText, TellsVerdict, with_model}
+use Rattle.shell_model.specs.TraceCommands.{Executes, ExecutesFrom, ExecutesOnText, ExecutesWith, JudgesFile, JudgesText, TellsVerdict, with_model}
 
 -- a text was judged
 pub judged : (program : Program) (text : List ℕ) (verdict : Verdict) {old new : Moment} {e : End} → Judges (bodies program) text verdict → Performs (TellsVerdict verdict) old e new → Performs (JudgesText program text) old e new

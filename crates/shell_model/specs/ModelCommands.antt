@@ -1,8 +1,8 @@
 -- The command that reads the model.
 use Rattle.std.specs.Prelude.{ℕ, List, Option, Some, None, Result, Ok, Err, codes}
 use Rattle.std.specs.Option.{option_or}
-use Rattle.cmd_table.specs.declared.commands.TheConstants.{READ_MODEL}
 use Rattle.cmd_table.specs.declared.fault.OptFault.TheVariants.{Required}
+use Rattle.cmd_table.specs.declared.given.Given.{Given}
 use Rattle.cmd_table.specs.Options.{value_at}
 use Rattle.shell_lang.specs.Keyed.{at_name, with_name}
 use Rattle.smv_tree.specs.declared.program.Program.{Program}
@@ -13,7 +13,19 @@ use Rattle.shell_world.specs.declared.refusal.Refusal.{Refusal}
 use Rattle.shell_world.specs.declared.refusal.Refusal.TheVariants as refusal
 use Rattle.shell_world.specs.declared.state.State.{State}
 use Rattle.shell_world.specs.Processes.{Becomes, ForSome, Knowing, MayLack, Process, Refuses, Where}
-use Rattle.shell_world.specs.Steps.{WithFile, WithOptions}
+use Rattle.shell_world.specs.Steps.{WithFile}
+use Rattle.shell_world.specs.Rows.{WithRow}
+use Rattle.shell_model.specs.declared.model_commands.ModelCommand.{ModelCommand}
+use Rattle.shell_model.specs.declared.model_commands.ModelCommand.TheVariants as command
+use Rattle.shell_model.specs.declared.model_commands.TheConstants.{READ_MODEL}
+
+-- the word that a command is called by
+abbrev pub model_word : ModelCommand → List ℕ
+model_word command.ReadModel = codes "read_model"
+
+-- the command as a user writes it
+abbrev pub model_help : ModelCommand → List ℕ
+model_help command.ReadModel = codes "read_model [-i file]"
 
 -- a model has at most so many bytes
 abbrev pub model_limit : ℕ
@@ -55,6 +67,14 @@ ReadsNamed (Some file) state = ReadsModel file state.model
 abbrev pub ReadsBy : Option (List ℕ) → Process
 ReadsBy given = Knowing (λ state. ReadsNamed (option_or given (input_file state)) state)
 
+-- the file that `-i` names
+abbrev pub named_by : Given → Option (List ℕ)
+named_by given = value_at given.values 0
+
 -- the command `read_model`
-abbrev pub DoesModel : List (List ℕ) → Process
-DoesModel words = WithOptions READ_MODEL words (λ given. MayLack (ReadsBy (value_at given.values 0)))
+abbrev pub DoesReadModel : List (List ℕ) → Process
+DoesReadModel words = WithRow READ_MODEL words (λ given. MayLack (ReadsBy (named_by given)))
+
+-- a command of this topic, one case each
+abbrev pub DoesModel : ModelCommand → List (List ℕ) → Process
+DoesModel command.ReadModel words = DoesReadModel words

@@ -1,6 +1,6 @@
 -- The command that executes a trace on the model.
-use Rattle.std.specs.Prelude.{ℕ, Bool, true, false, List, Option, Some, None, Result, Ok, Err}
-use Rattle.cmd_table.specs.declared.commands.TheConstants.{EXECUTE_TEXT_TRACE}
+use Rattle.std.specs.Prelude.{ℕ, Bool, true, false, List, Option, Some, None, Result, Ok, Err, codes}
+use Rattle.cmd_table.specs.declared.given.Given.{Given}
 use Rattle.cmd_table.specs.Options.{is_given}
 use Rattle.smv_tree.specs.declared.program.Program.{Program}
 use Rattle.smv_tree.specs.Models.{bodies}
@@ -13,8 +13,20 @@ use Rattle.shell_world.specs.declared.event.TraceEvent.TheVariants.{Executed, St
 use Rattle.shell_world.specs.declared.refusal.Refusal.TheVariants as refusal
 use Rattle.shell_world.specs.declared.state.State.{State}
 use Rattle.shell_world.specs.Processes.{Becomes, ForSome, Knowing, MayLack, Process, Refuses, Says, Then, Where}
-use Rattle.shell_world.specs.Steps.{WithFile, WithFirst, WithOptions}
+use Rattle.shell_world.specs.Steps.{WithFile, WithFirst}
+use Rattle.shell_world.specs.Rows.{WithRow}
 use Rattle.shell_model.specs.ModelCommands.{input_file, model_limit, model_refusal}
+use Rattle.shell_model.specs.declared.trace_commands.TraceCommand.{TraceCommand}
+use Rattle.shell_model.specs.declared.trace_commands.TraceCommand.TheVariants as command
+use Rattle.shell_model.specs.declared.trace_commands.TheConstants.{EXECUTE_TEXT_TRACE}
+
+-- the word that a command is called by
+abbrev pub trace_word : TraceCommand → List ℕ
+trace_word command.ExecuteTextTrace = codes "execute_text_trace"
+
+-- the command as a user writes it
+abbrev pub trace_help : TraceCommand → List ℕ
+trace_help command.ExecuteTextTrace = codes "execute_text_trace [-c] file"
 
 -- a trace has at most so many bytes
 abbrev pub trace_limit : ℕ
@@ -63,6 +75,15 @@ abbrev pub ExecutesIf : Bool → List (List ℕ) → Process
 ExecutesIf true names = Refuses refusal.NotBuilt
 ExecutesIf false names = WithFirst Executes names
 
+-- `-c` says that the trace has changes alone
+abbrev pub has_changes : Given → Bool
+has_changes given = is_given given 0
+
 -- the command `execute_text_trace`
-abbrev pub DoesTrace : List (List ℕ) → Process
-DoesTrace words = WithOptions EXECUTE_TEXT_TRACE words (λ given. ExecutesIf (is_given given 0) given.rest)
+abbrev pub DoesExecute : List (List ℕ) → Process
+DoesExecute words =
+    WithRow EXECUTE_TEXT_TRACE words (λ given. ExecutesIf (has_changes given) given.rest)
+
+-- a command of this topic, one case each
+abbrev pub DoesTrace : TraceCommand → List (List ℕ) → Process
+DoesTrace command.ExecuteTextTrace words = DoesExecute words

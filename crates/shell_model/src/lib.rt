@@ -1,8 +1,9 @@
 #![tactic(auto)]
-//! The commands of the model, of traces and of the log.
+//! The commands of the model, of traces and of the log, a file each.
 //!
-//! Each command performs the process that its definition says: `DoesModel`, `DoesTrace` and `DoesLog`
-//! in `specs`. A refused command leaves the session as it was.
+//! The rows of a topic's commands stand first in its file, and its function does each of them:
+//! `do_model`, `do_trace` and `do_log` perform the processes `DoesModel`, `DoesTrace` and `DoesLog`
+//! of `specs`. A refused command leaves the session as it was.
 
 mod laws;
 mod log_commands;
@@ -10,6 +11,6 @@ mod model_commands;
 mod trace_commands;
 
 pub use laws::refused_command_changes_nothing;
-pub use log_commands::do_check_log;
-pub use model_commands::do_read_model;
-pub use trace_commands::do_execute_text_trace;
+pub use log_commands::{LOG_COMMANDS, LogCommand, do_log};
+pub use model_commands::{MODEL_COMMANDS, ModelCommand, do_model, set_input_file};
+pub use trace_commands::{TRACE_COMMANDS, TraceCommand, do_trace};

@@ -4,16 +4,51 @@ ghost use Rattle.sat_log_text.specs.Answers.{IsNoMemory};
 ghost use Rattle.sat_log_text.specs.TextFault.{HasFault};
 ghost use Rattle.shell_world.specs.Steps.{WithFirst};
 ghost use Rattle.shell_world.specs.Written.{Does};
-ghost use Rattle.shell_model.specs.LogCommands.{ChecksFile, ChecksText, DoesLog, IsChecked};
+ghost use Rattle.shell_model.specs.LogCommands.{ChecksFile, ChecksText, DoesCheckLog, DoesLog, IsChecked};
 
-use cmd_table::commands::CHECK_LOG;
-use cmd_table::read_options;
+use cmd_table::commands;
 use outside::{Text, Words};
 use sat_log_text::{LogFault, read_text};
 use shell_world::{
-    End, Event, LogEvent, Outside, Refusal, State, read_file, refuse, refuse_file, say,
+    End, Event, Listed, LogEvent, Outside, Phase, Refusal, Row, State, read_file, read_row, refuse,
+    refuse_file, say,
 };
 use std::alloc::Global;
+
+/// The commands of the log.
+#[derive(Clone, Copy, Debug, PartialEq, Eq)]
+pub enum LogCommand {
+    CheckLog,
+}
+
+/// All of them.
+pub const LOG_COMMANDS: [LogCommand; 1] = [LogCommand::CheckLog];
+
+impl Listed for LogCommand {
+    ghost use Rattle.shell_model.specs.LogCommands.{log_help, log_word};
+
+    ghost word = { log_word };
+
+    ghost help = { log_help };
+
+    fn word(self) -> &'static [u8] {
+        match self {
+            LogCommand::CheckLog => b"check_log",
+        }
+    }
+
+    fn help(self) -> &'static [u8] {
+        match self {
+            LogCommand::CheckLog => b"check_log file",
+        }
+    }
+}
+
+/// `check_log file`
+pub const CHECK_LOG: Row<0> = Row {
+    table: commands::CHECK_LOG,
+    needs: Phase::Start,
+};
 
 /// A log has at most so many bytes.
 const LOG_LIMIT: usize = 268_435_456;
@@ -64,12 +99,28 @@ fn check_first<W: Outside>(alloc: Global, state: &State, world: &mut W, names: &
     }
 }
 
-/// `check_log file`
-pub fn do_check_log<W: Outside>(alloc: Global, state: &State, world: &mut W, words: &Words) -> End
-    ensures { Does W.told (DoesLog words.now) state.now world.old result state.now world.new }
+// `check_log file`
+fn do_check_log<W: Outside>(alloc: Global, state: &State, world: &mut W, words: &Words) -> End
+    ensures { Does W.told (DoesCheckLog words.now) state.now world.old result state.now world.new }
 {
-    match read_options(alloc, &CHECK_LOG, words) {
+    match read_row(alloc, state, &CHECK_LOG, words) {
         Ok(given) => check_first(alloc, state, world, given.rest.as_slice()),
-        Err(fault) => refuse(state, world, Refusal::Options(fault)),
+        Err(refusal) => refuse(state, world, refusal),
+    }
+}
+
+/// Does a command of the log.
+pub fn do_log<W: Outside>(
+    alloc: Global,
+    state: &State,
+    world: &mut W,
+    command: LogCommand,
+    words: &Words,
+) -> End
+    ensures { Does W.told (DoesLog command words.now)
+        state.now world.old result state.now world.new }
+{
+    match command {
+        LogCommand::CheckLog => do_check_log(alloc, state, world, words),
     }
 }

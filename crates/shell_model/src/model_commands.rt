@@ -1,20 +1,59 @@
 //! The topic of the model.
-ghost use Rattle.std.specs.Prelude.{◌≡◌, ◌≤◌, codes, length, IfOk, None, OnOk, OnErr};
+ghost use Rattle.std.specs.Prelude.{◌≡◌, ◌≤◌, codes, length, option_copied, None, OnOk, OnErr};
 ghost use Rattle.std.specs.Option.{option_or};
-ghost use Rattle.cmd_table.specs.Options.{value_at};
 ghost use Rattle.shell_lang.specs.Keyed.{with_name};
 ghost use Rattle.shell_world.specs.Processes.{Becomes, MayLack};
 ghost use Rattle.shell_world.specs.Steps.{WithFile};
 ghost use Rattle.shell_world.specs.Written.{Does};
-ghost use Rattle.shell_model.specs.ModelCommands.{DoesModel, ReadsBy, ReadsModel, ReadsNamed, TakesText, input_file, model_limit, model_refusal, with_read};
+ghost use Rattle.shell_model.specs.ModelCommands.{DoesModel, DoesReadModel, ReadsBy, ReadsModel, ReadsNamed, TakesText, input_file, model_limit, model_refusal, named_by, with_read};
 
 use bool_replay::{BoolModel, ModelFault};
-use cmd_table::commands::READ_MODEL;
-use cmd_table::{Given, OptFault, read_options};
+use cmd_table::{Given, OptFault, commands};
 use outside::{Text, Words};
 use shell_lang::Vars;
-use shell_world::{End, Outside, Refusal, State, read_file, refuse, refuse_file};
+use shell_world::{
+    End, Listed, Outside, Phase, Refusal, Row, State, copy_of, read_file, read_row, refuse,
+    refuse_file,
+};
 use std::alloc::{AllocError, Global};
+
+/// The commands of the model.
+#[derive(Clone, Copy, Debug, PartialEq, Eq)]
+pub enum ModelCommand {
+    ReadModel,
+}
+
+/// All of them.
+pub const MODEL_COMMANDS: [ModelCommand; 1] = [ModelCommand::ReadModel];
+
+impl Listed for ModelCommand {
+    ghost use Rattle.shell_model.specs.ModelCommands.{model_help, model_word};
+
+    ghost word = { model_word };
+
+    ghost help = { model_help };
+
+    fn word(self) -> &'static [u8] {
+        match self {
+            ModelCommand::ReadModel => b"read_model",
+        }
+    }
+
+    fn help(self) -> &'static [u8] {
+        match self {
+            ModelCommand::ReadModel => b"read_model [-i file]",
+        }
+    }
+}
+
+/// `read_model [-i file]`
+pub const READ_MODEL: Row<1> = Row {
+    table: commands::READ_MODEL,
+    needs: Phase::Start,
+};
+
+// The place of `-i` among its options.
+const INPUT: usize = 0;
 
 /// A model has at most so many bytes.
 pub(crate) const MODEL_LIMIT: usize = 4_194_304;
@@ -31,7 +70,11 @@ pub(crate) fn model_refusal(fault: ModelFault) -> Refusal
 }
 
 /// Names the model's file in the variable.
-fn set_input_file(alloc: Global, vars: &mut Vars, file: &Text) -> Result<(), AllocError>
+///
+/// # Errors
+///
+/// `AllocError` where memory is refused; nothing has changed then.
+pub fn set_input_file(alloc: Global, vars: &mut Vars, file: &Text) -> Result<(), AllocError>
     ensures ok { OnOk result (vars.new ≡ with_name vars.old (codes "input_file") file.now) }
     ensures err { OnErr result (vars.new ≡ vars.old) }
 {
@@ -125,16 +168,12 @@ fn refuse_unnamed<W: Outside>(alloc: Global, state: &State, world: &mut W) -> En
 }
 
 /// The file of the option, or else that of the variable.
-fn named_file(alloc: Global, given: &Given, state: &State) -> Result<Option<Text>, AllocError>
-    ensures { IfOk result (λ file.
-        file ≡ option_or (value_at given.now.values 0) (input_file state.now)) }
+fn named_file<'a>(given: &'a Given, state: &'a State) -> Option<&'a Text>
+    ensures { option_copied result ≡ option_or (named_by given.now) (input_file state.now) }
 {
-    match given.values.get(0) {
-        Some(file) => Ok(Some(file.copy(alloc)?)),
-        None => match state.vars.input_file() {
-            Some(file) => Ok(Some(file.copy(alloc)?)),
-            None => Ok(None),
-        },
+    match given.values.get(INPUT) {
+        Some(file) => Some(file),
+        None => state.vars.input_file(),
     }
 }
 
@@ -156,26 +195,39 @@ fn read_named<W: Outside>(
 
 /// Reads the model, by the options.
 fn read_by<W: Outside>(alloc: Global, state: &mut State, world: &mut W, given: &Given) -> End
-    ensures { Does W.told (MayLack (ReadsBy (value_at given.now.values 0)))
+    ensures { Does W.told (MayLack (ReadsBy (named_by given.now)))
         state.old world.old result state.new world.new }
 {
-    match named_file(alloc, given, state) {
+    match copy_of(alloc, named_file(given, state)) {
         Ok(file) => read_named(alloc, state, world, file),
         Err(AllocError) => refuse(state, world, Refusal::NoMemory),
     }
 }
 
-/// `read_model [-i file]`
-pub fn do_read_model<W: Outside>(
+// `read_model [-i file]`
+fn do_read_model<W: Outside>(alloc: Global, state: &mut State, world: &mut W, words: &Words) -> End
+    ensures { Does W.told (DoesReadModel words.now)
+        state.old world.old result state.new world.new }
+{
+    match read_row(alloc, state, &READ_MODEL, words) {
+        Ok(given) => read_by(alloc, state, world, &given),
+        Err(refusal) => refuse(state, world, refusal),
+    }
+}
+
+/// Does a command of the model. The remembered lines stay as they were.
+pub fn do_model<W: Outside>(
     alloc: Global,
     state: &mut State,
     world: &mut W,
+    command: ModelCommand,
     words: &Words,
 ) -> End
-    ensures { Does W.told (DoesModel words.now) state.old world.old result state.new world.new }
+    ensures does { Does W.told (DoesModel command words.now)
+        state.old world.old result state.new world.new }
+    ensures past { state.new.past ≡ state.old.past }
 {
-    match read_options(alloc, &READ_MODEL, words) {
-        Ok(given) => read_by(alloc, state, world, &given),
-        Err(fault) => refuse(state, world, Refusal::Options(fault)),
+    match command {
+        ModelCommand::ReadModel => do_read_model(alloc, state, world, words),
     }
 }

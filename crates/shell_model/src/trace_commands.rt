@@ -1,21 +1,58 @@
 //! The topic of traces.
-ghost use Rattle.std.specs.Prelude.{◌≡◌, ◌≤◌, length, IfOk, Some};
-ghost use Rattle.cmd_table.specs.Options.{is_given};
+ghost use Rattle.std.specs.Prelude.{◌≡◌, ◌≤◌, length, Some};
 ghost use Rattle.shell_world.specs.Processes.{Becomes, MayLack, Then};
 ghost use Rattle.shell_world.specs.Steps.{WithFirst};
 ghost use Rattle.shell_world.specs.Written.{Does};
 ghost use Rattle.shell_model.specs.ModelCommands.{input_file};
-ghost use Rattle.shell_model.specs.TraceCommands.{DoesTrace, Executes, ExecutesFrom, ExecutesIf, ExecutesOnText, JudgesFile, JudgesText, TellsVerdict, with_model};
+ghost use Rattle.shell_model.specs.TraceCommands.{DoesExecute, DoesTrace, Executes, ExecutesFrom, ExecutesIf, ExecutesOnText, JudgesFile, JudgesText, TellsVerdict, has_changes, with_model};
 
 use crate::model_commands::{MODEL_LIMIT, model_refusal};
 use bool_replay::{BoolModel, Verdict};
-use cmd_table::commands::EXECUTE_TEXT_TRACE;
-use cmd_table::{Given, read_options};
+use cmd_table::{Given, commands};
 use outside::{Text, Words};
 use shell_world::{
-    End, Event, Outside, Refusal, State, TraceEvent, read_file, refuse, refuse_file, say,
+    End, Event, Listed, Outside, Phase, Refusal, Row, State, TraceEvent, copy_of, read_file,
+    read_row, refuse, refuse_file, say,
 };
 use std::alloc::{AllocError, Global};
+
+/// The commands of traces.
+#[derive(Clone, Copy, Debug, PartialEq, Eq)]
+pub enum TraceCommand {
+    ExecuteTextTrace,
+}
+
+/// All of them.
+pub const TRACE_COMMANDS: [TraceCommand; 1] = [TraceCommand::ExecuteTextTrace];
+
+impl Listed for TraceCommand {
+    ghost use Rattle.shell_model.specs.TraceCommands.{trace_help, trace_word};
+
+    ghost word = { trace_word };
+
+    ghost help = { trace_help };
+
+    fn word(self) -> &'static [u8] {
+        match self {
+            TraceCommand::ExecuteTextTrace => b"execute_text_trace",
+        }
+    }
+
+    fn help(self) -> &'static [u8] {
+        match self {
+            TraceCommand::ExecuteTextTrace => b"execute_text_trace [-c] file",
+        }
+    }
+}
+
+/// `execute_text_trace [-c] file`, which reads the model itself where there is none
+pub const EXECUTE_TEXT_TRACE: Row<1> = Row {
+    table: commands::EXECUTE_TEXT_TRACE,
+    needs: Phase::Start,
+};
+
+// The place of `-c` among its options.
+const CHANGES: usize = 0;
 
 /// A trace has at most so many bytes.
 const TRACE_LIMIT: usize = 4_194_304;
@@ -69,7 +106,8 @@ fn judge_file<W: Outside>(
     }
 }
 
-/// Executes a trace on a model that was read for it, and keeps the model unless the trace is refused.
+/// Executes a trace on a model that was read for it, and keeps the model unless the trace is
+/// refused.
 fn execute_on<W: Outside>(
     alloc: Global,
     state: &mut State,
@@ -123,16 +161,6 @@ fn execute_from<W: Outside>(
     }
 }
 
-/// The file that the variable names, if it has a value.
-fn input_file(alloc: Global, state: &State) -> Result<Option<Text>, AllocError>
-    ensures { IfOk result (λ file. file ≡ input_file state.now) }
-{
-    match state.vars.input_file() {
-        Some(file) => Ok(Some(file.copy(alloc)?)),
-        None => Ok(None),
-    }
-}
-
 /// Executes a trace on the model of the file that is named.
 fn execute_on_named<W: Outside>(
     alloc: Global,
@@ -155,7 +183,7 @@ fn execute_named<W: Outside>(alloc: Global, state: &mut State, world: &mut W, na
     ensures { Does W.told (MayLack (ExecutesFrom name.now (input_file state.old)))
         state.old world.old result state.new world.new }
 {
-    match input_file(alloc, state) {
+    match copy_of(alloc, state.vars.input_file()) {
         Ok(file) => execute_on_named(alloc, state, world, name, file),
         Err(AllocError) => refuse(state, world, Refusal::NoMemory),
     }
@@ -184,27 +212,44 @@ fn execute_first<W: Outside>(alloc: Global, state: &mut State, world: &mut W, na
 
 /// Executes a trace, by the options.
 fn execute_by<W: Outside>(alloc: Global, state: &mut State, world: &mut W, given: &Given) -> End
-    ensures { Does W.told (ExecutesIf (is_given given.now 0) given.now.rest)
+    ensures { Does W.told (ExecutesIf (has_changes given.now) given.now.rest)
         state.old world.old result state.new world.new }
 {
-    if given.values.get(0).is_some() {
+    if given.values.get(CHANGES).is_some() {
         refuse(state, world, Refusal::NotBuilt)
     } else {
         execute_first(alloc, state, world, given.rest.as_slice())
     }
 }
 
-/// `execute_text_trace [-c] file`
-pub fn do_execute_text_trace<W: Outside>(
+// `execute_text_trace [-c] file`
+fn do_execute_text_trace<W: Outside>(
     alloc: Global,
     state: &mut State,
     world: &mut W,
     words: &Words,
 ) -> End
-    ensures { Does W.told (DoesTrace words.now) state.old world.old result state.new world.new }
+    ensures { Does W.told (DoesExecute words.now) state.old world.old result state.new world.new }
 {
-    match read_options(alloc, &EXECUTE_TEXT_TRACE, words) {
+    match read_row(alloc, state, &EXECUTE_TEXT_TRACE, words) {
         Ok(given) => execute_by(alloc, state, world, &given),
-        Err(fault) => refuse(state, world, Refusal::Options(fault)),
+        Err(refusal) => refuse(state, world, refusal),
+    }
+}
+
+/// Does a command of traces. The remembered lines stay as they were.
+pub fn do_trace<W: Outside>(
+    alloc: Global,
+    state: &mut State,
+    world: &mut W,
+    command: TraceCommand,
+    words: &Words,
+) -> End
+    ensures does { Does W.told (DoesTrace command words.now)
+        state.old world.old result state.new world.new }
+    ensures past { state.new.past ≡ state.old.past }
+{
+    match command {
+        TraceCommand::ExecuteTextTrace => do_execute_text_trace(alloc, state, world, words),
     }
 }

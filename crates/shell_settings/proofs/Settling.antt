@@ -8,12 +8,11 @@ use Rattle.shell_world.specs.declared.end.End.{End}
 use Rattle.shell_world.specs.declared.end.End.TheVariants as ends
 use Rattle.shell_world.specs.declared.refusal.Refusal.TheVariants as refusal
 use Rattle.shell_world.specs.declared.state.State.{State}
-use Rattle.shell_world.specs.Processes.{Knowing, Process, Refuses}
+use Rattle.shell_world.specs.Processes.{Knowing, Refuses}
 use Rattle.shell_world.specs.Scenes.{Moment, Told, at}
-use Rattle.shell_world.specs.Steps.{WithFirst}
 use Rattle.shell_world.specs.Written.{Performs}
 use Rattle.shell_world.proofs.Combining.{lacked, lacked_not}
-use Rattle.shell_world.proofs.Performing.{became, known, went}
+use Rattle.shell_world.proofs.Performing.{became, known}
 use Rattle.shell_settings.specs.Settings.{Alters, RefusesOr, ShowsLast, ShowsWith}
 
 -- a range of numbers begins with the first of them

@@ -1,7 +1,6 @@
 -- The commands that show and change variables, aliases and the lines that were entered.
-use Rattle.std.specs.Prelude.{◌+◌, ◌-◌, ◌&&◌, ℕ, Bool, true, false, List, [], ◌∷◌, Option, Some, None, is_none, length, min, nat_le}
+use Rattle.std.specs.Prelude.{◌+◌, ◌-◌, ◌&&◌, ℕ, Bool, true, false, List, [], ◌∷◌, Option, Some, None, codes, is_none, length, min, nat_le}
 use Rattle.std.specs.List.{range_with_len}
-use Rattle.cmd_table.specs.declared.commands.TheConstants.{ALIAS, HISTORY, RESET, SET, UNALIAS, UNSET}
 use Rattle.cmd_table.specs.declared.fault.OptFault.TheVariants as options
 use Rattle.outside.specs.Number.{number_of}
 use Rattle.shell_lang.specs.declared.fault.LangFault.{LangFault}
@@ -9,6 +8,9 @@ use Rattle.shell_lang.specs.declared.fault.LangFault.TheVariants as language
 use Rattle.shell_lang.specs.Keyed.{at_name, with_name, without_name}
 use Rattle.shell_lang.specs.Known.{is_illegal, is_unknown, taken_back}
 use Rattle.shell_lang.specs.Past.{Past, line_of}
+use Rattle.shell_settings.specs.declared.settings.SettingsCommand.{SettingsCommand}
+use Rattle.shell_settings.specs.declared.settings.SettingsCommand.TheVariants as command
+use Rattle.shell_settings.specs.declared.settings.TheConstants.{ALIAS, HISTORY, SET, UNALIAS, UNSET}
 use Rattle.shell_world.specs.declared.end.End.TheVariants as ends
 use Rattle.shell_world.specs.declared.event.Event.TheVariants as event
 use Rattle.shell_world.specs.declared.event.SettingsEvent.TheVariants as settings
@@ -16,8 +18,25 @@ use Rattle.shell_world.specs.declared.refusal.Refusal.TheVariants as refusal
 use Rattle.shell_world.specs.declared.state.State.{State}
 use Rattle.shell_world.specs.Processes.{Becomes, Each, Ends, Knowing, MayLack, Process, Refuses, Says}
 use Rattle.shell_world.specs.Scenes.{goes_along}
-use Rattle.shell_world.specs.Steps.{WithFirst, WithOptions}
+use Rattle.shell_world.specs.Rows.{WithRow}
+use Rattle.shell_world.specs.Steps.{WithFirst}
 use Rattle.shell_world.specs.Texts.{joined}
+
+-- the word that a command is called by
+abbrev pub settings_word : SettingsCommand → List ℕ
+settings_word command.Alias = codes "alias"
+settings_word command.History = codes "history"
+settings_word command.Set = codes "set"
+settings_word command.Unalias = codes "unalias"
+settings_word command.Unset = codes "unset"
+
+-- the command as a user writes it
+abbrev pub settings_help : SettingsCommand → List ℕ
+settings_help command.Alias = codes "alias [name [words]]"
+settings_help command.History = codes "history [n]"
+settings_help command.Set = codes "set [name [value]]"
+settings_help command.Unalias = codes "unalias name"
+settings_help command.Unset = codes "unset name"
 
 -- the state becomes f of it, or the fault is answered and nothing changes
 abbrev pub RefusesOr : Bool → LangFault → (State → State) → Process
@@ -33,14 +52,16 @@ abbrev pub with_value : List ℕ → List ℕ → State → State
 with_value name value state = record state { vars = with_name state.vars name value }
 
 abbrev pub SetsTo : List ℕ → List ℕ → Process
-SetsTo name value = Alters (λ state. is_illegal name value) (language.BadValue name) (with_value name value)
+SetsTo name value =
+    Alters (λ state. is_illegal name value) (language.BadValue name) (with_value name value)
 
 -- it has its default, or no value
 abbrev pub without_value : List ℕ → State → State
 without_value name state = record state { vars = taken_back state.vars name }
 
 abbrev pub TakesBack : List ℕ → Process
-TakesBack name = Alters (λ state. is_unknown state.vars name) (language.NoName name) (without_value name)
+TakesBack name =
+    Alters (λ state. is_unknown state.vars name) (language.NoName name) (without_value name)
 
 -- a name stands for words
 abbrev pub with_alias : List ℕ → List (List ℕ) → State → State
@@ -53,13 +74,16 @@ has_no_place name state = is_none (at_name state.aliases name) && nat_le 1000 (l
 abbrev pub PutsAlias : List ℕ → List (List ℕ) → Process
 PutsAlias name words = Alters (has_no_place name) language.TooManyAliases (with_alias name words)
 
+-- the name is no alias
+abbrev pub is_no_alias : List ℕ → State → Bool
+is_no_alias name state = is_none (at_name state.aliases name)
+
 -- it stands for itself alone
 abbrev pub without_alias : List ℕ → State → State
 without_alias name state = record state { aliases = without_name state.aliases name }
 
 abbrev pub DropsAlias : List ℕ → Process
-DropsAlias name =
-    Alters (λ state. is_none (at_name state.aliases name)) (language.NoName name) (without_alias name)
+DropsAlias name = Alters (is_no_alias name) (language.NoName name) (without_alias name)
 
 -- a variable with its value is shown; an alias with its words
 abbrev pub ShowsValue : List ℕ × List ℕ → Process
@@ -92,7 +116,8 @@ ShowsLine number None = Ends ends.Went
 abbrev pub ShowsLast : ℕ → Past → Process
 ShowsLast most past =
     let shown = min most (length past.kept) in
-    Each goes_along (λ number. ShowsLine number (line_of past number)) (range_with_len (past.count - shown + 1) shown)
+    let numbers = range_with_len (past.count - shown + 1) shown in
+    Each goes_along (λ number. ShowsLine number (line_of past number)) numbers
 
 -- so many as a word says, which has to be a number
 abbrev pub ShowsMost : List ℕ → Option ℕ → Process
@@ -116,20 +141,24 @@ ShowsWith (word ∷ words) = ShowsMost word (number_of word)
 
 -- the commands
 abbrev pub Sets : List (List ℕ) → Process
-Sets words = WithOptions SET words (λ given. SetsWith given.rest)
+Sets words = WithRow SET words (λ given. SetsWith given.rest)
 
 abbrev pub Unsets : List (List ℕ) → Process
-Unsets words = WithOptions UNSET words (λ given. WithFirst TakesBack given.rest)
+Unsets words = WithRow UNSET words (λ given. WithFirst TakesBack given.rest)
 
 abbrev pub Aliases : List (List ℕ) → Process
-Aliases words = WithOptions ALIAS words (λ given. AliasesWith given.rest)
+Aliases words = WithRow ALIAS words (λ given. AliasesWith given.rest)
 
 abbrev pub Unaliases : List (List ℕ) → Process
-Unaliases words = WithOptions UNALIAS words (λ given. WithFirst DropsAlias given.rest)
+Unaliases words = WithRow UNALIAS words (λ given. WithFirst DropsAlias given.rest)
 
 abbrev pub ShowsHistory : List (List ℕ) → Process
-ShowsHistory words = WithOptions HISTORY words (λ given. ShowsWith given.rest)
+ShowsHistory words = WithRow HISTORY words (λ given. ShowsWith given.rest)
 
--- what is dropped by `reset`: there is nothing yet
-abbrev pub Resets : List (List ℕ) → Process
-Resets words = WithOptions RESET words (λ given. Ends ends.Went)
+-- a command of the settings, one case each
+abbrev pub DoesSettings : SettingsCommand → List (List ℕ) → Process
+DoesSettings command.Alias words = Aliases words
+DoesSettings command.History words = ShowsHistory words
+DoesSettings command.Set words = Sets words
+DoesSettings command.Unalias words = Unaliases words
+DoesSettings command.Unset words = Unsets words

@@ -1,11 +1,13 @@
 #![tactic(auto)]
-//! The commands of the shell that need no model: those that show and change settings.
+//! The commands of the shell that show and change settings.
 //!
-//! Each command is a process over its words: its definition stands in `specs/`, and its function has
-//! the one clause `Does`. What changes settings leaves the remembered lines as they were.
+//! The rows of the commands stand first in `settings.rt`, and `do_settings` does each of them: its
+//! one clause `Does` cites the process that `specs/` defines. What changes settings leaves the
+//! remembered lines as they were, and a refused command changes nothing.
 
+mod laws;
 mod past;
 mod settings;
 
-pub use past::do_history;
-pub use settings::{do_alias, do_set, do_unalias, do_unset};
+pub use laws::refused_setting_changes_nothing;
+pub use settings::{SETTINGS_COMMANDS, SettingsCommand, do_settings};

@@ -4,10 +4,10 @@ ghost use Rattle.shell_lang.specs.Past.{line_of};
 ghost use Rattle.shell_settings.specs.Settings.{ShowsHistory, ShowsLast, ShowsLine, ShowsMost, ShowsWith};
 ghost use Rattle.shell_world.specs.Written.{Does};
 
-use cmd_table::commands::HISTORY;
-use cmd_table::{OptFault, read_options};
+use crate::settings::HISTORY;
+use cmd_table::OptFault;
 use outside::{Text, Words, read_number};
-use shell_world::{End, Event, Outside, Refusal, SettingsEvent, State, refuse, say};
+use shell_world::{End, Event, Outside, Refusal, SettingsEvent, State, read_row, refuse, say};
 use std::alloc::Global;
 
 // Shows a remembered line, after its number.
@@ -18,7 +18,8 @@ fn show_past<W: Outside>(
     number: u64,
     line: &Text,
 ) -> End
-    ensures { Does W.told (ShowsLine number (Some line.now)) state.now world.old result state.now world.new }
+    ensures { Does W.told (ShowsLine number (Some line.now))
+        state.now world.old result state.now world.new }
 {
     match line.copy(alloc) {
         Ok(line) => say(
@@ -32,7 +33,8 @@ fn show_past<W: Outside>(
 
 // Shows a remembered line, if it is kept.
 fn show_line<W: Outside>(alloc: Global, state: &State, world: &mut W, number: u64) -> End
-    ensures { Does W.told (ShowsLine number (line_of state.now.past number)) state.now world.old result state.now world.new }
+    ensures { Does W.told (ShowsLine number (line_of state.now.past number))
+        state.now world.old result state.now world.new }
 {
     match state.past.line(number) {
         Some(line) => show_past(alloc, state, world, number, line),
@@ -42,7 +44,8 @@ fn show_line<W: Outside>(alloc: Global, state: &State, world: &mut W, number: u6
 
 // Shows the last of the remembered lines, so many at most.
 fn show_last<W: Outside>(alloc: Global, state: &State, world: &mut W, most: u64) -> End
-    ensures { Does W.told (ShowsLast most state.now.past) state.now world.old result state.now world.new }
+    ensures { Does W.told (ShowsLast most state.now.past)
+        state.now world.old result state.now world.new }
 {
     let shown = most.min(state.past.kept().len() as u64);
     let first = state.past.count().saturating_sub(shown);
@@ -67,7 +70,8 @@ fn no_number<W: Outside>(alloc: Global, state: &State, world: &mut W, word: &Tex
 
 // Shows as many of the last lines as a word says.
 fn show_most<W: Outside>(alloc: Global, state: &State, world: &mut W, word: &Text) -> End
-    ensures { Does W.told (ShowsMost word.now (number_of word.now)) state.now world.old result state.now world.new }
+    ensures { Does W.told (ShowsMost word.now (number_of word.now))
+        state.now world.old result state.now world.new }
 {
     match read_number(word.as_slice()) {
         Some(most) => show_last(alloc, state, world, most),
@@ -86,11 +90,16 @@ fn show_with<W: Outside>(alloc: Global, state: &State, world: &mut W, words: &[T
 }
 
 /// `history [n]`
-pub fn do_history<W: Outside>(alloc: Global, state: &State, world: &mut W, words: &Words) -> End
+pub(crate) fn do_history<W: Outside>(
+    alloc: Global,
+    state: &State,
+    world: &mut W,
+    words: &Words,
+) -> End
     ensures { Does W.told (ShowsHistory words.now) state.now world.old result state.now world.new }
 {
-    match read_options(alloc, &HISTORY, words) {
+    match read_row(alloc, state, &HISTORY, words) {
         Ok(given) => show_with(alloc, state, world, given.rest.as_slice()),
-        Err(fault) => refuse(state, world, Refusal::Options(fault)),
+        Err(refusal) => refuse(state, world, refusal),
     }
 }

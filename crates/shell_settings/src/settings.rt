@@ -1,17 +1,113 @@
 ghost use Rattle.std.specs.Prelude.{◌≡◌, IfOk, None};
-ghost use Rattle.shell_settings.specs.Settings.{Aliases, AliasesWith, DropsAlias, ListsAlias, ListsAliases, ListsValues, PutsAlias, Sets, SetsTo, SetsWith, ShowsAlias, ShowsNamed, ShowsValue, TakesBack, Unaliases, Unsets};
+ghost use Rattle.shell_settings.specs.Settings.{Aliases, AliasesWith, DoesSettings, DropsAlias, ListsAlias, ListsAliases, ListsValues, PutsAlias, Sets, SetsTo, SetsWith, ShowsAlias, ShowsNamed, ShowsValue, TakesBack, Unaliases, Unsets};
 ghost use Rattle.shell_world.specs.declared.event.Event.TheVariants as event;
 ghost use Rattle.shell_world.specs.declared.event.SettingsEvent.TheVariants as settings;
 ghost use Rattle.shell_world.specs.Texts.{joined};
 ghost use Rattle.shell_world.specs.Steps.{WithFirst};
 ghost use Rattle.shell_world.specs.Written.{Does};
 
-use cmd_table::commands::{ALIAS, SET, UNALIAS, UNSET};
-use cmd_table::read_options;
+use crate::past::do_history;
+use cmd_table::commands;
 use outside::{Text, Words};
 use shell_lang::LangFault;
-use shell_world::{End, Event, Outside, Refusal, SettingsEvent, State, join, refuse, say};
+use shell_world::{
+    End, Event, Listed, Outside, Phase, Refusal, Row, SettingsEvent, State, join, read_row, refuse,
+    say,
+};
 use std::alloc::{AllocError, Global};
+
+/// The commands of the settings.
+#[derive(Clone, Copy, Debug, PartialEq, Eq)]
+pub enum SettingsCommand {
+    Alias,
+    History,
+    Set,
+    Unalias,
+    Unset,
+}
+
+/// All of them.
+pub const SETTINGS_COMMANDS: [SettingsCommand; 5] = [
+    SettingsCommand::Alias,
+    SettingsCommand::History,
+    SettingsCommand::Set,
+    SettingsCommand::Unalias,
+    SettingsCommand::Unset,
+];
+
+impl Listed for SettingsCommand {
+    ghost use Rattle.shell_settings.specs.Settings.{settings_help, settings_word};
+
+    ghost word = { settings_word };
+
+    ghost help = { settings_help };
+
+    fn word(self) -> &'static [u8] {
+        match self {
+            SettingsCommand::Alias => b"alias",
+            SettingsCommand::History => b"history",
+            SettingsCommand::Set => b"set",
+            SettingsCommand::Unalias => b"unalias",
+            SettingsCommand::Unset => b"unset",
+        }
+    }
+
+    fn help(self) -> &'static [u8] {
+        match self {
+            SettingsCommand::Alias => b"alias [name [words]]",
+            SettingsCommand::History => b"history [n]",
+            SettingsCommand::Set => b"set [name [value]]",
+            SettingsCommand::Unalias => b"unalias name",
+            SettingsCommand::Unset => b"unset name",
+        }
+    }
+}
+
+pub const ALIAS: Row<0> = Row {
+    table: commands::ALIAS,
+    needs: Phase::Start,
+};
+
+pub const HISTORY: Row<0> = Row {
+    table: commands::HISTORY,
+    needs: Phase::Start,
+};
+
+pub const SET: Row<0> = Row {
+    table: commands::SET,
+    needs: Phase::Start,
+};
+
+pub const UNALIAS: Row<0> = Row {
+    table: commands::UNALIAS,
+    needs: Phase::Start,
+};
+
+pub const UNSET: Row<0> = Row {
+    table: commands::UNSET,
+    needs: Phase::Start,
+};
+
+/// Does a command of the settings. The remembered lines stay as they were.
+pub fn do_settings<W: Outside>(
+    alloc: Global,
+    state: &mut State,
+    world: &mut W,
+    command: SettingsCommand,
+    words: &Words,
+) -> End
+    ensures does { Does W.told (DoesSettings command words.now)
+        state.old world.old result state.new world.new }
+    ensures past { state.new.past ≡ state.old.past }
+{
+    match command {
+        SettingsCommand::Alias => do_alias(alloc, state, world, words),
+        SettingsCommand::History => do_history(alloc, state, world, words),
+        SettingsCommand::Set => do_set(alloc, state, world, words),
+        SettingsCommand::Unalias => do_unalias(alloc, state, world, words),
+        SettingsCommand::Unset => do_unset(alloc, state, world, words),
+    }
+}
 
 // An entry with copies of its texts.
 fn entry_of(alloc: Global, name: &Text, value: &Text) -> Result<Event, AllocError>
@@ -39,7 +135,8 @@ fn show_value<W: Outside>(
     name: &Text,
     value: &Text,
 ) -> End
-    ensures { Does W.told (ShowsValue (name.now, value.now)) state.now world.old result state.now world.new }
+    ensures { Does W.told (ShowsValue (name.now, value.now))
+        state.now world.old result state.now world.new }
 {
     match entry_of(alloc, name, value) {
         Ok(event) => say(state, world, event),
@@ -55,7 +152,8 @@ fn show_alias<W: Outside>(
     name: &Text,
     words: &Words,
 ) -> End
-    ensures { Does W.told (ShowsAlias (name.now, words.now)) state.now world.old result state.now world.new }
+    ensures { Does W.told (ShowsAlias (name.now, words.now))
+        state.now world.old result state.now world.new }
 {
     match joined_entry(alloc, name, words) {
         Ok(event) => say(state, world, event),
@@ -91,7 +189,8 @@ fn list_aliases<W: Outside>(alloc: Global, state: &State, world: &mut W) -> End
 
 // Refuses a name that is no alias.
 fn no_name<W: Outside>(alloc: Global, state: &State, world: &mut W, name: &Text) -> End
-    ensures { Does W.told (ShowsNamed name.now None) state.now world.old result state.now world.new }
+    ensures { Does W.told (ShowsNamed name.now None)
+        state.now world.old result state.now world.new }
 {
     match name.copy(alloc) {
         Ok(name) => refuse(state, world, Refusal::Language(LangFault::NoName(name))),
@@ -111,7 +210,8 @@ fn list_alias<W: Outside>(alloc: Global, state: &State, world: &mut W, name: &Te
 
 // Sets a variable.
 fn set_to<W: Outside>(state: &mut State, world: &mut W, name: &Text, value: &Text) -> End
-    ensures does { Does W.told (SetsTo name.now value.now) state.old world.old result state.new world.new }
+    ensures does { Does W.told (SetsTo name.now value.now)
+        state.old world.old result state.new world.new }
     ensures past { state.new.past ≡ state.old.past }
 {
     match state.vars.set(name, value) {
@@ -133,7 +233,8 @@ fn take_back<W: Outside>(state: &mut State, world: &mut W, name: &Text) -> End
 
 // Makes a name stand for words.
 fn put_alias<W: Outside>(state: &mut State, world: &mut W, name: &Text, words: &Words) -> End
-    ensures does { Does W.told (PutsAlias name.now words.now) state.old world.old result state.new world.new }
+    ensures does { Does W.told (PutsAlias name.now words.now)
+        state.old world.old result state.new world.new }
     ensures past { state.new.past ≡ state.old.past }
 {
     match state.aliases.put(name, words) {
@@ -144,7 +245,8 @@ fn put_alias<W: Outside>(state: &mut State, world: &mut W, name: &Text, words: &
 
 // Takes an alias away.
 fn drop_alias<W: Outside>(state: &mut State, world: &mut W, name: &Text) -> End
-    ensures does { Does W.told (DropsAlias name.now) state.old world.old result state.new world.new }
+    ensures does { Does W.told (DropsAlias name.now)
+        state.old world.old result state.new world.new }
     ensures past { state.new.past ≡ state.old.past }
 {
     match state.aliases.remove(name) {
@@ -165,31 +267,32 @@ fn set_with<W: Outside>(alloc: Global, state: &mut State, world: &mut W, words: 
     }
 }
 
-/// `set [name [value]]`
-pub fn do_set<W: Outside>(alloc: Global, state: &mut State, world: &mut W, words: &Words) -> End
+// `set [name [value]]`
+fn do_set<W: Outside>(alloc: Global, state: &mut State, world: &mut W, words: &Words) -> End
     ensures does { Does W.told (Sets words.now) state.old world.old result state.new world.new }
     ensures past { state.new.past ≡ state.old.past }
 {
-    match read_options(alloc, &SET, words) {
+    match read_row(alloc, state, &SET, words) {
         Ok(given) => set_with(alloc, state, world, given.rest.as_slice()),
-        Err(fault) => refuse(state, world, Refusal::Options(fault)),
+        Err(refusal) => refuse(state, world, refusal),
     }
 }
 
-/// `unset name`
-pub fn do_unset<W: Outside>(alloc: Global, state: &mut State, world: &mut W, words: &Words) -> End
+// `unset name`
+fn do_unset<W: Outside>(alloc: Global, state: &mut State, world: &mut W, words: &Words) -> End
     ensures does { Does W.told (Unsets words.now) state.old world.old result state.new world.new }
     ensures past { state.new.past ≡ state.old.past }
 {
-    match read_options(alloc, &UNSET, words) {
+    match read_row(alloc, state, &UNSET, words) {
         Ok(given) => unset_with(state, world, given.rest.as_slice()),
-        Err(fault) => refuse(state, world, Refusal::Options(fault)),
+        Err(refusal) => refuse(state, world, refusal),
     }
 }
 
 // `unset` with its free word.
 fn unset_with<W: Outside>(state: &mut State, world: &mut W, words: &[Text]) -> End
-    ensures does { Does W.told (WithFirst TakesBack words.now) state.old world.old result state.new world.new }
+    ensures does { Does W.told (WithFirst TakesBack words.now)
+        state.old world.old result state.new world.new }
     ensures past { state.new.past ≡ state.old.past }
 {
     match words {
@@ -214,20 +317,21 @@ fn alias_with<W: Outside>(alloc: Global, state: &mut State, world: &mut W, words
     put_alias(state, world, &name, &Words::from_vec(texts))
 }
 
-/// `alias [name [words]]`
-pub fn do_alias<W: Outside>(alloc: Global, state: &mut State, world: &mut W, words: &Words) -> End
+// `alias [name [words]]`
+fn do_alias<W: Outside>(alloc: Global, state: &mut State, world: &mut W, words: &Words) -> End
     ensures does { Does W.told (Aliases words.now) state.old world.old result state.new world.new }
     ensures past { state.new.past ≡ state.old.past }
 {
-    match read_options(alloc, &ALIAS, words) {
+    match read_row(alloc, state, &ALIAS, words) {
         Ok(given) => alias_with(alloc, state, world, given.rest),
-        Err(fault) => refuse(state, world, Refusal::Options(fault)),
+        Err(refusal) => refuse(state, world, refusal),
     }
 }
 
 // `unalias` with its free word.
 fn unalias_with<W: Outside>(state: &mut State, world: &mut W, words: &[Text]) -> End
-    ensures does { Does W.told (WithFirst DropsAlias words.now) state.old world.old result state.new world.new }
+    ensures does { Does W.told (WithFirst DropsAlias words.now)
+        state.old world.old result state.new world.new }
     ensures past { state.new.past ≡ state.old.past }
 {
     match words {
@@ -236,13 +340,14 @@ fn unalias_with<W: Outside>(state: &mut State, world: &mut W, words: &[Text]) ->
     }
 }
 
-/// `unalias name`
-pub fn do_unalias<W: Outside>(alloc: Global, state: &mut State, world: &mut W, words: &Words) -> End
-    ensures does { Does W.told (Unaliases words.now) state.old world.old result state.new world.new }
+// `unalias name`
+fn do_unalias<W: Outside>(alloc: Global, state: &mut State, world: &mut W, words: &Words) -> End
+    ensures does { Does W.told (Unaliases words.now)
+        state.old world.old result state.new world.new }
     ensures past { state.new.past ≡ state.old.past }
 {
-    match read_options(alloc, &UNALIAS, words) {
+    match read_row(alloc, state, &UNALIAS, words) {
         Ok(given) => unalias_with(state, world, given.rest.as_slice()),
-        Err(fault) => refuse(state, world, Refusal::Options(fault)),
+        Err(refusal) => refuse(state, world, refusal),
     }
 }

@@ -1,26 +1,17 @@
 -- How the steps of commands are put together: options and files that were read, and memory that was refused.
-use Rattle.std.proofs.Common.{◌≡◌, ◌⊎◌, ℕ, Bool, true, false, List, [], ◌∷◌, inl, inr, refl, ap, ◌∙◌, ◌<◌, length, arith}
-use Rattle.std.proofs.lemmas.Bool.{true≢false}
-use Rattle.std.specs.Prelude.{Result, Ok, Err, alloc_error}
-use Rattle.cmd_table.specs.declared.fault.OptFault.{OptFault}
-use Rattle.cmd_table.specs.declared.fault.OptFault.TheVariants as opt_faults
-use Rattle.cmd_table.specs.declared.given.Given.{Given}
-use Rattle.cmd_table.specs.declared.table.Table.{Table}
-use Rattle.cmd_table.specs.Fault.{number_of}
-use Rattle.cmd_table.specs.Options.{Options}
+use Rattle.std.proofs.Common.{◌≡◌, ℕ, List, [], ◌∷◌, inl, refl, ap, ◌∙◌, ◌<◌, length, arith}
+use Rattle.std.specs.Prelude.{Result, Ok, Err}
 use Rattle.outside.specs.declared.files.FileFault.{FileFault}
 use Rattle.outside.specs.declared.source.Line.{Line}
 use Rattle.outside.specs.declared.source.LineFault.{LineFault}
 use Rattle.shell_world.specs.declared.end.End.{End}
 use Rattle.shell_world.specs.declared.end.End.TheVariants as ends
-use Rattle.shell_world.specs.declared.event.Event.{Event}
 use Rattle.shell_world.specs.declared.refusal.Refusal.{Refusal}
-use Rattle.shell_world.specs.declared.refusal.Refusal.TheVariants as refusal
 use Rattle.shell_world.specs.declared.state.State.{State}
 use Rattle.shell_world.specs.Outsides.{ReadsDisk, ReadsInput, WritesDisk}
-use Rattle.shell_world.specs.Processes.{ForSome, MayLack, Process, Refuses, SaysIf, Then, Where}
+use Rattle.shell_world.specs.Processes.{ForSome, MayLack, Process, Refuses, Then, Where}
 use Rattle.shell_world.specs.Scenes.{Moment, Told, at, goes_along, scene_of}
-use Rattle.shell_world.specs.Steps.{AfterFile, AfterOptions, AfterStore, IsFileRead, IsFileWritten, IsLineRead, ReadsWhole, RefusesFile, Stores, TakesLine, WithFile, WithFirst, WithOptions, WritesWhole, file_refusal}
+use Rattle.shell_world.specs.Steps.{AfterFile, AfterStore, IsFileRead, IsFileWritten, IsLineRead, ReadsWhole, RefusesFile, Stores, TakesLine, WithFile, WithFirst, WritesWhole}
 use Rattle.shell_world.specs.Texts.{refusal_number}
 use Rattle.shell_world.specs.Written.{AreWritten, Performs}
 use Rattle.shell_world.proofs.Performing.{here, led, left, none_written, right, some, went, went_on}
@@ -31,23 +22,6 @@ same_sinks old new o e =
     let w = none_written old in
     record { out = ap (λ x. x.written) o ∙ w.out; err = ap (λ x. x.written) e ∙ w.err; out_quiet = ap (λ x. x.faults) o; err_quiet = ap (λ x. x.faults) e }
 
--- memory was refused while options were read
-abbrev Lacks : Result Given OptFault → Type 0
-Lacks answer = answer ≡ Err (opt_faults.NoMemory alloc_error)
-
--- an answer is no fault
-abbrev is_answer : Result Given OptFault → Bool
-is_answer (Ok given) = true
-is_answer (Err fault) = false
-
-ok_is_no_err : (given : Given) (fault : OptFault) → Ok given ≡ Err fault → ⊥
-ok_is_no_err given fault e = true≢false (ap is_answer e)
-
--- the number of a fault among answers
-abbrev number_in : Result Given OptFault → ℕ
-number_in (Ok given) = 0
-number_in (Err fault) = number_of fault
-
 -- memory was refused for a command, and it said so
 pub lacked : (P : Process) (r : Refusal) {old new : Moment} {e : End} → refusal_number r ≡ 900 → Performs (Refuses r) old e new → Performs (MayLack P) old e new
 lacked P r n p = left P (some (λ r. Where (refusal_number r ≡ 900) (Refuses r)) r (here n p))
@@ -55,10 +29,6 @@ lacked P r n p = left P (some (λ r. Where (refusal_number r ≡ 900) (Refuses r
 -- memory was not refused
 pub lacked_not : {P : Process} {old new : Moment} {e : End} → Performs P old e new → Performs (MayLack P) old e new
 lacked_not p = right (ForSome (λ r. Where (refusal_number r ≡ 900) (Refuses r))) p
-
--- an event was not told
-pub said_none : (said : Event) (now : Moment) → Performs (SaysIf false said) now ends.Went now
-said_none said now = went now
 
 -- a line was read
 pub line_read : (limit : ℕ) (answer : Result Line LineFault) (state : State) (old new : Told) → ReadsInput limit old answer new → Performs (TakesLine limit answer) (at state old) ends.Went (at state new)
@@ -96,16 +66,6 @@ file_written name bytes answer state old new r =
       others = ap (λ i. record { state = state; disk = new.disk; input = i }) (ap (λ t. t.input) r.others);
     } in
     record { events = []; happens = is; written = inl (went_on, same_sinks old new (ap (λ t. t.out) r.others) (ap (λ t. t.err) r.others)); same = ap (λ t. t.objects) r.others }
-
--- the options of a command were read
-pub with_options : {N : ℕ} (table : Table N) (words : List (List ℕ)) (P : Given → Process) (given : Given) {old new : Moment} {e : End} → (Options table words (Ok given) ⊎ (Lacks (Ok given))) → Performs (P given) old e new → Performs (WithOptions table words P) old e new
-with_options table words P given (inl o) p = lacked_not (some (λ answer. Where (Options table words answer) (AfterOptions P answer)) (Ok given) (here o p))
-with_options table words P given (inr m) p = absurd (ok_is_no_err given (opt_faults.NoMemory alloc_error) m)
-
--- they were refused
-pub without_options : {N : ℕ} (table : Table N) (words : List (List ℕ)) (P : Given → Process) (fault : OptFault) {old new : Moment} {e : End} → (Options table words (Err fault) ⊎ (Lacks (Err fault))) → Performs (Refuses (refusal.Options fault)) old e new → Performs (WithOptions table words P) old e new
-without_options table words P fault (inl o) p = lacked_not (some (λ answer. Where (Options table words answer) (AfterOptions P answer)) (Err fault) (here o p))
-without_options table words P fault (inr m) p = lacked (ForSome (λ answer. Where (Options table words answer) (AfterOptions P answer))) (refusal.Options fault) (ap number_in m) p
 
 -- what follows on a file that was read
 pub with_file : (limit : ℕ) (name : List ℕ) (P : List ℕ → Process) (text : List ℕ) {old mid new : Moment} {e : End} → Performs (ReadsWhole limit name (Ok text)) old ends.Went mid → Performs (P text) mid e new → Performs (WithFile limit name P) old e new

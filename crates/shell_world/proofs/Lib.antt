@@ -1,2 +1,4 @@
 pub mod Performing
 pub mod Combining
+pub mod Rowing
+pub mod Keeping

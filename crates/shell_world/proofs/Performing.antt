@@ -1,6 +1,6 @@
 -- How performances of processes are put together.
-use Rattle.std.proofs.Common.{◌≡◌, ◌≢◌, ◌⊎◌, ◌+◌, ◌<◌, ◌≤◌, ℕ, suc, Bool, true, false, List, [], ◌∷◌, ◌++◌, inl, inr, refl, ap, sym, ◌∙◌, subst, append_assoc, add-one, arith, drop, get_or, length}
-use Rattle.std.specs.Prelude.{Result, Ok, Err, None, Some, flat_map}
+use Rattle.std.proofs.Common.{◌≡◌, ◌≢◌, ◌⊎◌, ◌+◌, ◌<◌, ◌≤◌, ℕ, suc, Bool, true, false, List, [], ◌∷◌, ◌++◌, inl, inr, refl, ap, sym, ◌∙◌, subst, append_assoc, add-one, drop, get_or, length}
+use Rattle.std.specs.Prelude.{Result, Ok, Err}
 use Rattle.std.specs.Io.KnownBytes.{append_known}
 use Rattle.std.proofs.Math.Seq.{drop-cons}
 use Rattle.std.proofs.lemmas.Bool.{false≢true}
@@ -16,9 +16,9 @@ use Rattle.shell_world.specs.declared.event.Side.TheVariants as side
 use Rattle.shell_world.specs.declared.state.State.{State}
 use Rattle.shell_world.specs.Outsides.{Tells, WritesOn}
 use Rattle.shell_world.specs.Processes.{Becomes, Chain, Each, Either, Ends, EndsSaying, ForSome, IsChanged, IsOver, IsSaid, Knowing, Leads, Process, Stops, Where}
-use Rattle.shell_world.specs.Scenes.{Moment, Scene, Told, at, goes_along, goes_on, scene_of}
+use Rattle.shell_world.specs.Scenes.{Moment, Told, at, goes_along, goes_on, scene_of}
 use Rattle.shell_world.specs.Texts.{side_of, text_if, text_of, text_on}
-use Rattle.shell_world.specs.Written.{AreWritten, BreakAtLast, Breaks, Performs, Written}
+use Rattle.shell_world.specs.Written.{AreWritten, Breaks, Performs, Written}
 
 -- nothing was written
 pub none_written : (told : Told) → AreWritten [] told told
@@ -224,15 +224,6 @@ items_over leads does items {now = now} is c =
 -- only one end leads along
 pub along : (state : State) (e : End) → e ≡ ends.Went → goes_along state e ≡ true
 along state e is = ap (goes_along state) is
-
-pub not_along : (state : State) (e : End) → e ≢ ends.Went → goes_along state e ≡ false
-not_along state ends.Went n = absurd (n refl)
-not_along state ends.Refused n = refl
-not_along state ends.Quits n = refl
-not_along state ends.Misused n = refl
-not_along state ends.InputFailed n = refl
-not_along state ends.Cut n = refl
-not_along state ends.NoMemory n = refl
 
 -- what was said ended as is wanted, or a sink failed
 pub said_ended : (said : Event) (wanted : End) {old new : Moment} {e : End} → Performs (EndsSaying said wanted) old e new → (e ≡ wanted) ⊎ (e ≡ ends.Cut)

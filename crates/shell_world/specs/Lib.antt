@@ -4,3 +4,6 @@ pub mod Processes
 pub mod Written
 pub mod Outsides
 pub mod Steps
+pub mod Phases
+pub mod Rows
+pub mod Keeping

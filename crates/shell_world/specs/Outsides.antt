@@ -14,26 +14,32 @@ use Rattle.shell_world.specs.Scenes.{Told}
 use Rattle.shell_world.specs.Texts.{side_of, text_of}
 
 -- a line was read from the input
-pub record ReadsInput (limit : ℕ) (old : Told) (result : Result Line LineFault) (new : Told) : Type 0 where
+pub record ReadsInput (limit : ℕ)
+    (old : Told) (result : Result Line LineFault) (new : Told) : Type 0 where
   pub reads : ReadsLine limit old.input result new.input
   pub others : new ≡ record old { input = new.input }
 
 -- a file was read, and all files hold what they held
-pub record ReadsDisk (limit : ℕ) (name : List ℕ) (old : Told) (result : Result (List ℕ) FileFault) (new : Told) : Type 0 where
+pub record ReadsDisk (limit : ℕ) (name : List ℕ)
+    (old : Told) (result : Result (List ℕ) FileFault) (new : Told) : Type 0 where
   pub reads : ReadsFile limit name old.disk result new.disk
   pub held : new.disk.held ≡ old.disk.held
   pub others : new ≡ record old { disk = new.disk }
 
 -- a file was written
-pub record WritesDisk (name bytes : List ℕ) (old : Told) (result : Result (Unit {0}) FileFault) (new : Told) : Type 0 where
+pub record WritesDisk (name bytes : List ℕ)
+    (old : Told) (result : Result (Unit {0}) FileFault) (new : Told) : Type 0 where
   pub writes : WritesFile name bytes old.disk result new.disk
   pub others : new ≡ record old { disk = new.disk }
 
 -- a text was written on one side
 abbrev pub WritesOn : Side → List ℕ → Told → Result (Unit {0}) Failed → Told → Type 0
-WritesOn Output text old result new = Writes text old.out result new.out × (new ≡ record old { out = new.out })
-WritesOn Errors text old result new = Writes text old.err result new.err × (new ≡ record old { err = new.err })
+WritesOn Output text old result new =
+    Writes text old.out result new.out × (new ≡ record old { out = new.out })
+WritesOn Errors text old result new =
+    Writes text old.err result new.err × (new ≡ record old { err = new.err })
 
 -- the text of an event was written, on its side
-pub record Tells (event : Event) (old : Told) (result : Result (Unit {0}) Failed) (new : Told) : Type 0 where
+pub record Tells (event : Event)
+    (old : Told) (result : Result (Unit {0}) Failed) (new : Told) : Type 0 where
   pub writes : WritesOn (side_of event) (text_of event) old result new

@@ -1,6 +1,6 @@
--- Processes: what may happen in a scene, with its events, its end and the scene after. Each command is said in the
--- few words that build them.
-use Rattle.std.specs.Prelude.{◌≡◌, ◌⊎◌, ℕ, Bool, true, false, List, [], ◌∷◌, ◌++◌}
+-- Processes: what may happen in a scene, with its events, its end and the scene after. Each command is
+-- said in the few words that build them.
+use Rattle.std.specs.Prelude.{◌≡◌, ◌⊎◌, Bool, true, false, List, [], ◌∷◌, ◌++◌}
 use Rattle.shell_world.specs.declared.end.End.{End}
 use Rattle.shell_world.specs.declared.end.End.TheVariants as ends
 use Rattle.shell_world.specs.declared.event.Event.{Event}
@@ -16,7 +16,8 @@ abbrev pub Process : Type 1
 Process = Scene → List Event → End → Scene → Type 0
 
 -- nothing is told and nothing changes
-pub record IsOver (wanted : End) (old : Scene) (events : List Event) (end : End) (new : Scene) : Type 0 where
+pub record IsOver (wanted : End)
+    (old : Scene) (events : List Event) (end : End) (new : Scene) : Type 0 where
   pub told : events ≡ []
   pub ended : end ≡ wanted
   pub same : new ≡ old
@@ -25,7 +26,8 @@ unfoldable pub Ends : End → Process
 Ends wanted old events end new = IsOver wanted old events end new
 
 -- one event is told, and the end is the one that is wanted, or the sink failed at this event
-pub record IsSaid (said : Event) (wanted : End) (old : Scene) (events : List Event) (end : End) (new : Scene) : Type 0 where
+pub record IsSaid (said : Event) (wanted : End)
+    (old : Scene) (events : List Event) (end : End) (new : Scene) : Type 0 where
   pub told : events ≡ said ∷ []
   pub ended : (end ≡ wanted) ⊎ (end ≡ ends.Cut)
   pub same : new ≡ old
@@ -34,7 +36,8 @@ unfoldable pub EndsSaying : Event → End → Process
 EndsSaying said wanted old events end new = IsSaid said wanted old events end new
 
 -- the state becomes f of it
-pub record IsChanged (f : State → State) (old : Scene) (events : List Event) (end : End) (new : Scene) : Type 0 where
+pub record IsChanged (f : State → State)
+    (old : Scene) (events : List Event) (end : End) (new : Scene) : Type 0 where
   pub told : events ≡ []
   pub ended : end ≡ ends.Went
   pub changed : new ≡ record old { state = f old.state }
@@ -59,12 +62,14 @@ unfoldable pub Knowing : (State → Process) → Process
 Knowing P old events end new = P old.state old events end new
 
 -- the first of two, whose end does not lead on
-pub record Stops (leads : State → End → Bool) (P : Process) (old : Scene) (events : List Event) (end : End) (new : Scene) : Type 0 where
+pub record Stops (leads : State → End → Bool) (P : Process)
+    (old : Scene) (events : List Event) (end : End) (new : Scene) : Type 0 where
   pub first : P old events end new
   pub stops : leads new.state end ≡ false
 
 -- the first of two, and then the second
-pub record Leads (leads : State → End → Bool) (P Q : Process) (old : Scene) (events : List Event) (end : End) (new : Scene) : Type 0 where
+pub record Leads (leads : State → End → Bool) (P Q : Process)
+    (old : Scene) (events : List Event) (end : End) (new : Scene) : Type 0 where
   pub mid : Scene
   pub middle : End
   pub before : List Event
@@ -76,7 +81,8 @@ pub record Leads (leads : State → End → Bool) (P Q : Process) (old : Scene) 
 
 -- the first, and where its end leads on, then the second
 unfoldable pub Chain : (State → End → Bool) → Process → Process → Process
-Chain leads P Q old events end new = Stops leads P old events end new ⊎ Leads leads P Q old events end new
+Chain leads P Q old events end new =
+    Stops leads P old events end new ⊎ Leads leads P Q old events end new
 
 -- the second follows where the first went well
 abbrev pub Then : Process → Process → Process

@@ -40,7 +40,8 @@ abbrev pub at : State → Told → Moment
 at state told = record { state = state; told = told }
 
 abbrev pub scene_of : Moment → Scene
-scene_of moment = record { state = moment.state; disk = moment.told.disk; input = moment.told.input }
+scene_of moment =
+    record { state = moment.state; disk = moment.told.disk; input = moment.told.input }
 
 -- the variable is set, empty or to 1
 abbrev pub is_set : List ℕ → Bool

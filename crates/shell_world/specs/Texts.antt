@@ -75,7 +75,8 @@ refusal_said refusal.NoMemory = codes "out of memory"
 
 -- the line of a refusal
 abbrev pub refusal_text : Refusal → List ℕ
-refusal_text r = codes "error " ++ decimal (refusal_number r) ++ codes ": " ++ refusal_said r ++ codes "\n"
+refusal_text r =
+    codes "error " ++ decimal (refusal_number r) ++ codes ": " ++ refusal_said r ++ codes "\n"
 
 abbrev pub shell_text : ShellEvent → List ℕ
 shell_text (Echo side text) = text
@@ -98,7 +99,8 @@ ended_text number = decimal number ++ codes "\n"
 -- a log is accepted
 abbrev pub accepted_text : ℕ → ℕ → List ℕ
 accepted_text given others =
-    (codes "-- the log is accepted, originals: " ++ decimal given ++ codes ", lines: ") ++ ended_text others
+    (codes "-- the log is accepted, originals: " ++ decimal given ++ codes ", lines: ")
+    ++ ended_text others
 
 abbrev pub log_text : LogEvent → List ℕ
 log_text e = accepted_text e.originals e.others
@@ -117,10 +119,12 @@ cause_line cause = cause_text cause ++ codes "\n"
 
 -- where a trace stops
 abbrev pub stop_text : ℕ → Cause → List ℕ
-stop_text number cause = (codes "-- the trace stops at state " ++ decimal number ++ codes ": ") ++ cause_line cause
+stop_text number cause =
+    (codes "-- the trace stops at state " ++ decimal number ++ codes ": ") ++ cause_line cause
 
 abbrev pub trace_text : TraceEvent → List ℕ
-trace_text (Executed count) = codes "-- the trace is executed, states: " ++ decimal count ++ codes "\n"
+trace_text (Executed count) =
+    codes "-- the trace is executed, states: " ++ decimal count ++ codes "\n"
 trace_text (Stops number cause) = stop_text number cause
 
 -- what is written of an event

@@ -4,13 +4,17 @@
 //!
 //! Each command of the shell is a process: a relation between the scene before, the events that it
 //! tells, its end and the scene after (`specs/Processes.antt`). `Does` says that code performed a
-//! process, and that each event was written as it came (`specs/Written.antt`). The calls here are
-//! the steps that commands are made of, each with such a clause.
+//! process, and that each event was written as it came (`specs/Written.antt`). A row says what a
+//! command takes and needs, and `read_row` is the one place where that is looked at
+//! (`specs/Rows.antt`). The other calls here are the steps that commands are made of, each with a
+//! clause `Does`.
 
 mod end;
 mod event;
+mod phase;
 mod reading;
 mod refusal;
+mod row;
 mod state;
 mod telling;
 mod words;
@@ -18,9 +22,11 @@ mod world;
 
 pub use end::{End, Next};
 pub use event::{Event, LogEvent, SettingsEvent, ShellEvent, Side, TraceEvent};
+pub use phase::Phase;
 pub use reading::{read_file, read_line, refuse_file, store_file, write_file};
 pub use refusal::Refusal;
+pub use row::{Listed, Row, find_word, put_words, read_row};
 pub use state::State;
 pub use telling::{end_saying, lack_memory, refuse, say, say_if};
-pub use words::join;
+pub use words::{copy_of, join};
 pub use world::{Outside, World};

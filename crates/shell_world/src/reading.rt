@@ -18,7 +18,8 @@ pub fn read_line<W: Outside>(
     world: &mut W,
     limit: usize,
 ) -> Result<Line, LineFault>
-    ensures { Does W.told (TakesLine limit result) state.now world.old ends.Went state.now world.new }
+    ensures { Does W.told (TakesLine limit result)
+        state.now world.old ends.Went state.now world.new }
 {
     let _state = state;
     world.line(alloc, limit)
@@ -36,7 +37,8 @@ pub fn read_file<W: Outside>(
     limit: usize,
     name: &Text,
 ) -> Result<Text, FileFault>
-    ensures { Does W.told (ReadsWhole limit name.now result) state.now world.old ends.Went state.now world.new }
+    ensures { Does W.told (ReadsWhole limit name.now result)
+        state.now world.old ends.Went state.now world.new }
 {
     let _state = state;
     world.file(alloc, name, limit)
@@ -54,7 +56,8 @@ pub fn write_file<W: Outside>(
     name: &Text,
     bytes: &[u8],
 ) -> Result<(), FileFault>
-    ensures { Does W.told (WritesWhole name.now bytes.now result) state.now world.old ends.Went state.now world.new }
+    ensures { Does W.told (WritesWhole name.now bytes.now result)
+        state.now world.old ends.Went state.now world.new }
 {
     let _state = state;
     world.store(alloc, name, bytes)
@@ -81,7 +84,8 @@ pub fn refuse_file<W: Outside>(
     name: &Text,
     fault: FileFault,
 ) -> End
-    ensures { Does W.told (RefusesFile limit name.now fault) state.now world.old result state.now world.new }
+    ensures { Does W.told (RefusesFile limit name.now fault)
+        state.now world.old result state.now world.new }
 {
     let Ok(name) = name.copy(alloc) else {
         return refuse(state, world, Refusal::NoMemory);
@@ -97,7 +101,8 @@ pub fn store_file<W: Outside>(
     name: &Text,
     bytes: &[u8],
 ) -> End
-    ensures { Does W.told (Stores name.now bytes.now) state.now world.old result state.now world.new }
+    ensures { Does W.told (Stores name.now bytes.now)
+        state.now world.old result state.now world.new }
 {
     match write_file(alloc, state, world, name, bytes) {
         Ok(()) => End::Went,

@@ -1,7 +1,7 @@
 ghost use Rattle.std.specs.Prelude.{◌≡◌, IfOk};
 ghost use Rattle.shell_world.specs.Scenes.{is_set};
 
-use crate::{End, Next};
+use crate::{End, Next, Phase};
 use bool_replay::BoolModel;
 use outside::read_number;
 use shell_lang::{Aliases, History, Vars};
@@ -34,6 +34,7 @@ fn is_set(text: &[u8]) -> bool
 }
 
 impl State {
+    ghost use Rattle.shell_world.specs.Phases.{has_reached, phase_of};
     ghost use Rattle.shell_world.specs.Scenes.{after, fresh, goes_along, goes_on, quits};
 
     /// A session that was not told anything yet.
@@ -50,6 +51,23 @@ impl State {
             past: History::new(alloc)?,
             model: None,
         })
+    }
+
+    // The phase that the session is in.
+    fn phase(&self) -> Phase
+        ensures { result ≡ phase_of self.now.model }
+    {
+        match &self.model {
+            None => Phase::Start,
+            Some(_) => Phase::ModelRead,
+        }
+    }
+
+    /// Whether the session is in this phase, or in a later one.
+    pub fn has_reached(&self, needed: Phase) -> bool
+        ensures { result ≡ has_reached self.now needed }
+    {
+        needed.rank() <= self.phase().rank()
     }
 
     // Whether a refused command ends the session.

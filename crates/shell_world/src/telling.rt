@@ -8,7 +8,8 @@ use crate::{End, Event, Outside, Refusal, State};
 // Tells an event that stays with the caller.
 fn tell_event<W: Outside>(state: &State, world: &mut W, event: &Event, wanted: End) -> End
     requires { wanted ≢ ends.Cut }
-    ensures { Does W.told (EndsSaying event.now wanted) state.now world.old result state.now world.new }
+    ensures { Does W.told (EndsSaying event.now wanted)
+        state.now world.old result state.now world.new }
 {
     match world.tell(event) {
         Ok(()) => wanted,

@@ -1,4 +1,4 @@
-ghost use Rattle.std.specs.Prelude.{◌≡◌, ◌++◌, ◌∷◌, flat_map, IfOk, OnOk};
+ghost use Rattle.std.specs.Prelude.{◌≡◌, ◌++◌, ◌∷◌, flat_map, option_copied, IfOk, OnOk};
 ghost use Rattle.shell_world.specs.Texts.{joined};
 
 use outside::Text;
@@ -30,5 +30,19 @@ pub fn join(alloc: Global, words: &[Text]) -> Result<Text, AllocError>
             append(&mut text, rest)?;
             Ok(text)
         }
+    }
+}
+
+/// A copy of a text, if there is one.
+///
+/// # Errors
+///
+/// `AllocError` where memory is refused.
+pub fn copy_of(alloc: Global, text: Option<&Text>) -> Result<Option<Text>, AllocError>
+    ensures { IfOk result (λ copy. copy ≡ option_copied text.entry) }
+{
+    match text {
+        Some(text) => Ok(Some(text.copy(alloc)?)),
+        None => Ok(None),
     }
 }

@@ -6,8 +6,8 @@ use crate::{Event, Side};
 use outside::{Failed, FileFault, Files, Line, LineFault, Sink, Source, Text, read_line};
 use std::alloc::Global;
 
-/// All that a session sees of the outside: its input, its files, and the two sinks that the texts of
-/// its events go to.
+/// All that a session sees of the outside: its input, its files, and the two sinks that the texts
+/// of its events go to.
 pub trait Outside {
     /// What the four objects tell, and which they are.
     ghost told: { Self → Told };

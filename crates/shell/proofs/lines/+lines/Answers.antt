@@ -1,16 +1,16 @@
-use Rattle.std.proofs.Common.{◌≡◌, ◌+◌, ◌-◌, ◌∙◌, arith, refl, sym, subst, suc}
+use Rattle.std.proofs.Common.{◌≡◌, ◌-◌, ◌∙◌, arith, refl, sym, subst, suc}
 use Rattle.std.specs.Prelude.{Ok, Err}
-use Rattle.cmd_table.specs.declared.commands.TheConstants.{SOURCE}
+use Rattle.shell.specs.declared.topics.TheConstants.{SOURCE}
 use Rattle.shell_world.specs.declared.end.End.TheVariants as ends
 use Rattle.shell_world.specs.declared.refusal.Refusal.TheVariants as refusal
-use Rattle.shell_world.specs.Processes.{Chain, Then}
+use Rattle.shell_world.specs.Processes.{Then}
 use Rattle.shell_world.specs.Scenes.{at, goes_along, goes_on}
 use Rattle.shell_world.specs.Written.{Performs}
-use Rattle.shell_world.proofs.Combining.{lacked, with_options, without_options}
+use Rattle.shell_world.proofs.Combining.{lacked}
+use Rattle.shell_world.proofs.Rowing.{with_row, without_row}
 use Rattle.shell_world.proofs.Performing.{each_more, each_over, each_stops, items_more, items_over, items_stop, led, stopped, went}
 use Rattle.shell.specs.Lines.{DoesCommand, DoesGiven, DoesLine, DoesScriptLine, ShowsScriptLine, Sourcing, given_script, script_lines}
 use Rattle.shell.proofs.Lining.{command_done, command_refused, line_lacked, line_not_split, line_split, script_done, too_deep, words_none}
-use Rattle.shell.proofs.PastKept.{model_past, trace_past}
 use Rattle.shell.proofs.ScriptLines.{no_lines}
 use Rattle.shell.proofs.lines.+lines.Goals as goal
 
@@ -89,7 +89,7 @@ do_script_line-returns-in-Err-clause-does g t c =
 
 pub do_source-returns-in-Err-clause-does : goal.do_source-returns-in-Err-clause-does
 do_source-returns-in-Err-clause-does g t c =
-    without_options SOURCE c.args.words.now (λ given. DoesGiven (Sourcing c.args.depth) (given_script given)) c.in-Err.fault c.in-Err.ensures.right c.refuse.ensures
+    without_row SOURCE c.args.words.now (λ given. DoesGiven (Sourcing c.args.depth) (given_script given)) c.in-Err.refusal c.in-Err.ensures.refused c.refuse.ensures
 
 pub do_source-returns-in-Err-script_given-clause-does : goal.do_source-returns-in-Err-script_given-clause-does
 do_source-returns-in-Err-script_given-clause-does g t c = lacked _ refusal.NoMemory refl c.refuse-in-Err-script_given.ensures
@@ -97,19 +97,13 @@ do_source-returns-in-Err-script_given-clause-does g t c = lacked _ refusal.NoMem
 pub do_source-returns-in-Some-clause-does : goal.do_source-returns-in-Some-clause-does
 do_source-returns-in-Some-clause-does g t c =
     let p = subst (λ s. Performs (DoesGiven (Sourcing c.args.depth) s) (at c.args.state.now (g.W.Outside.told c.args.world.now)) c.do_script.result (at c.do_script.new.state (g.W.Outside.told c.do_script.new.world))) (sym c.in-Some.is ∙ c.in-Ok-script_given.ensures) c.do_script.ensures.does in
-    with_options SOURCE c.args.words.now (λ given. DoesGiven (Sourcing c.args.depth) (given_script given)) c.in-Ok.given c.in-Ok.ensures.right p
+    with_row SOURCE c.args.words.now (λ given. DoesGiven (Sourcing c.args.depth) (given_script given)) c.in-Ok.given c.in-Ok.ensures.given p
 
 pub do_source-returns-clause-does : goal.do_source-returns-clause-does
 do_source-returns-clause-does g t c =
     let now = at c.args.state.now (g.W.Outside.told c.args.world.now) in
     let p = subst (λ s. Performs (DoesGiven (Sourcing c.args.depth) s) now ends.Went now) (sym c.in-None.is ∙ c.in-Ok-script_given.ensures) (went now) in
-    with_options SOURCE c.args.words.now (λ given. DoesGiven (Sourcing c.args.depth) (given_script given)) c.in-Ok.given c.in-Ok.ensures.right p
+    with_row SOURCE c.args.words.now (λ given. DoesGiven (Sourcing c.args.depth) (given_script given)) c.in-Ok.given c.in-Ok.ensures.given p
 
 pub do_words-returns-then-is_empty-clause-does : goal.do_words-returns-then-is_empty-clause-does
 do_words-returns-then-is_empty-clause-does g t c = words_none (Sourcing c.args.depth) c.args.words _ (grind arith)
-
-pub do_named-returns-in-ReadModel-clause-past : goal.do_named-returns-in-ReadModel-clause-past
-do_named-returns-in-ReadModel-clause-past g t c = model_past c.args.words.now _ _ _ _ c.do_read_model.ensures.happens
-
-pub do_named-returns-in-ExecuteTextTrace-clause-past : goal.do_named-returns-in-ExecuteTextTrace-clause-past
-do_named-returns-in-ExecuteTextTrace-clause-past g t c = trace_past c.args.words.now _ _ _ _ c.do_execute_text_trace.ensures.happens

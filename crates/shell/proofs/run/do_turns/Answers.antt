@@ -1,4 +1,4 @@
-use Rattle.std.proofs.Common.{arith, refl}
+use Rattle.std.proofs.Common.{arith}
 use Rattle.shell_world.specs.Scenes.{goes_on}
 use Rattle.shell_world.proofs.Performing.{begun}
 use Rattle.shell.proofs.Opening.{below, turn_more, turns_stop}

@@ -1,4 +1,4 @@
-use Rattle.std.proofs.Common.{◌≡◌, ◌≤◌, ◌-◌}
+use Rattle.std.proofs.Common.{◌≤◌, ◌-◌}
 use Rattle.shell_world.proofs.Performing.{Completes}
 use Rattle.shell_world.specs.Scenes.{at}
 use Rattle.shell.specs.Sessions.{Turns}

@@ -1,4 +1,4 @@
-use Rattle.std.proofs.Common.{refl, ap, sym}
+use Rattle.std.proofs.Common.{sym}
 use Rattle.shell_world.proofs.Combining.{with_file, without_file}
 use Rattle.shell_model.specs.LogCommands.{ChecksText}
 use Rattle.shell_model.proofs.log_commands.check_file.Goals as goal

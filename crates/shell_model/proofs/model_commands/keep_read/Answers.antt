@@ -1,4 +1,4 @@
-use Rattle.std.proofs.Common.{refl, ap, sym}
+use Rattle.std.proofs.Common.{ap}
 use Rattle.std.specs.Prelude.{Some}
 use Rattle.shell_model.proofs.ModelLemmas.{model_kept, not_kept}
 use Rattle.shell_model.proofs.model_commands.keep_read.Goals as goal

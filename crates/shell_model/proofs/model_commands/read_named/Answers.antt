@@ -1,4 +1,3 @@
-use Rattle.std.proofs.Common.{refl, sym}
 use Rattle.shell_model.proofs.model_commands.read_named.Goals as goal
 
 pub returns-in-Some : goal.returns-in-Some

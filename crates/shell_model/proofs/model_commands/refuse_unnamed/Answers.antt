@@ -1,4 +1,4 @@
-use Rattle.std.proofs.Common.{refl, ap, sym}
+use Rattle.std.proofs.Common.{refl, sym}
 use Rattle.shell_world.specs.declared.refusal.Refusal.TheVariants as refusal
 use Rattle.shell_world.proofs.Combining.{lacked, lacked_not}
 use Rattle.shell_model.proofs.model_commands.refuse_unnamed.Goals as goal

@@ -1,4 +1,4 @@
-use Rattle.std.proofs.Common.{refl, ap, sym}
+use Rattle.std.proofs.Common.{sym}
 use Rattle.shell_model.proofs.ModelLemmas.{text_refused, text_taken}
 use Rattle.shell_model.proofs.model_commands.take_text.Goals as goal
 

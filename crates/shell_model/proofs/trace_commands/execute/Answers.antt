@@ -1,4 +1,3 @@
-use Rattle.std.proofs.Common.{refl, ap, sym}
 use Rattle.shell_model.proofs.TraceLemmas.{on_kept, on_read}
 use Rattle.shell_model.proofs.trace_commands.execute.Goals as goal
 

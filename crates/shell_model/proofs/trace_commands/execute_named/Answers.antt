@@ -4,7 +4,7 @@ use Rattle.shell_world.proofs.Combining.{lacked, lacked_not}
 use Rattle.shell_model.proofs.trace_commands.execute_named.Goals as goal
 
 pub returns-in-Ok : goal.returns-in-Ok
-returns-in-Ok g c = lacked_not (rw (sym c.in-Ok.ensures) c.execute_on_named.ensures)
+returns-in-Ok g c = lacked_not (rw (sym c.input_file.ensures, sym c.in-Ok.ensures) c.execute_on_named.ensures)
 
 pub returns-in-Err : goal.returns-in-Err
 returns-in-Err g c = lacked _ refusal.NoMemory refl c.refuse.ensures

@@ -1,4 +1,4 @@
-use Rattle.std.proofs.Common.{◌∙◌, refl, ap, sym}
+use Rattle.std.proofs.Common.{◌∙◌, refl, sym}
 use Rattle.shell_model.proofs.TraceLemmas.{executed, executed_not}
 use Rattle.shell_model.proofs.trace_commands.execute_on.Goals as goal
 

@@ -1,4 +1,3 @@
-use Rattle.std.proofs.Common.{refl, sym}
 use Rattle.shell_model.proofs.trace_commands.execute_on_named.Goals as goal
 
 pub returns-in-Some : goal.returns-in-Some

@@ -1,4 +1,4 @@
-use Rattle.std.proofs.Common.{refl, ap, sym}
+use Rattle.std.proofs.Common.{sym}
 use Rattle.shell_model.proofs.TraceLemmas.{text_executed, text_not_executed}
 use Rattle.shell_model.proofs.trace_commands.execute_on_text.Goals as goal
 

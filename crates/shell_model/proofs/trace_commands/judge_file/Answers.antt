@@ -1,4 +1,4 @@
-use Rattle.std.proofs.Common.{refl, ap, sym}
+use Rattle.std.proofs.Common.{sym}
 use Rattle.shell_world.proofs.Combining.{with_file, without_file}
 use Rattle.shell_model.specs.TraceCommands.{JudgesText}
 use Rattle.shell_model.proofs.ModelLemmas.{within_limit}

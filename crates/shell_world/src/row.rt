@@ -1,0 +1,91 @@
+//! The rows of the commands: what a topic says of each of its commands, as data.
+ghost use Rattle.std.specs.Prelude.{◌≡◌, ◌⊎◌, ◌++◌, map, IfErr, IfOk, Err, Ok, OnOk};
+ghost use Rattle.shell_world.specs.Rows.{Gives, with_word};
+ghost use Rattle.shell_world.specs.Texts.{refusal_number};
+
+use crate::{Phase, Refusal, State};
+use cmd_table::{Given, Table, read_options};
+use outside::{Text, Words};
+use std::alloc::{AllocError, Global};
+
+/// What a command takes, and what it needs.
+#[derive(Clone, Copy)]
+pub struct Row<const N: usize> {
+    /// Its options and free words.
+    pub table: Table<N>,
+    /// The phase that a session has to be in, or past.
+    pub needs: Phase,
+}
+
+/// The commands of a topic.
+pub trait Listed: Copy {
+    ghost use Rattle.std.specs.Prelude.{ℕ, List};
+
+    /// The word that a command is called by, and its line of `help`.
+    ghost word: { Self → List ℕ };
+
+    ghost help: { Self → List ℕ };
+
+    /// The word that the command is called by.
+    fn word(self) -> &'static [u8]
+        ensures { result.now ≡ word self };
+
+    /// The command as a user writes it.
+    fn help(self) -> &'static [u8]
+        ensures { result.now ≡ help self };
+}
+
+/// The command of a word.
+pub fn find_word<C: Listed>(commands: &[C], word: &[u8]) -> Option<C>
+    ensures { result ≡ with_word C.Listed.word commands.now word.now }
+{
+    commands
+        .iter()
+        .copied()
+        .find(|command| command.word() == word)
+}
+
+/// Adds the words of commands.
+///
+/// # Errors
+///
+/// `AllocError` where memory is refused.
+pub fn put_words<C: Listed>(
+    alloc: Global,
+    words: &mut Vec<Text>,
+    commands: &[C],
+) -> Result<(), AllocError>
+    ensures { OnOk result (words.new.items ≡ words.old.items ++ map C.Listed.word commands.now) }
+{
+    for command in commands {
+        words.push(Text::from_slice(alloc, command.word())?)?;
+    }
+    Ok(())
+}
+
+/// What the words of a command give by its row, in this session.
+///
+/// # Errors
+///
+/// The refusal of a word, or else `NoModel` where the session has not reached the phase.
+pub fn read_row<const N: usize>(
+    alloc: Global,
+    state: &State,
+    row: &Row<N>,
+    words: &Words,
+) -> Result<Given, Refusal>
+    ensures given { IfOk result (λ given. Gives row.now words.now state.now (Ok given)) }
+    ensures refused { IfErr result (λ refusal.
+        (refusal_number refusal ≡ 900) ⊎ Gives row.now words.now state.now (Err refusal)) }
+{
+    match read_options(alloc, &row.table, words) {
+        Ok(given) => {
+            if state.has_reached(row.needs) {
+                Ok(given)
+            } else {
+                Err(Refusal::NoModel)
+            }
+        }
+        Err(fault) => Err(Refusal::Options(fault)),
+    }
+}
