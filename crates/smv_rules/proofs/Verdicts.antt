@@ -3,7 +3,7 @@ use Rattle.std.proofs.Common.{refl}
 use Rattle.smv_grammar.specs.Forms.{deepest}
 use Rattle.smv_text_reading.specs.TextReading.{all_read}
 use Rattle.smv_text_reading.proofs.Deciding.{DecidesAll, decides_all}
-use Rattle.smv_text_reading.proofs.Judging.{explained_law, found_law, only_law, refused_law}
+use Rattle.smv_text_reading.proofs.Judging.{explained_law, found_law, one_law, only_law, refused_law}
 use Rattle.smv_rules.specs.Sorts.{Sort, a_formula, an_expression, some_bodies}
 use Rattle.smv_rules.specs.Rules.{Rule}
 use Rattle.smv_rules.specs.Expressions.{expr}
@@ -25,6 +25,7 @@ right s r l = record {
   only = λ bytes x h. only_law (decides s r l) bytes x h;
   refused = λ bytes f e. refused_law (decides s r l) bytes f e;
   cause = λ bytes f h. explained_law (decides s r l) bytes f h;
+  one = λ bytes x y a b. one_law (decides s r l) bytes x y a b;
 }
 
 pub expression_right : Right expr

@@ -21,7 +21,8 @@ use Rattle.smv_grammar.specs.Forms.{begins_range, function_of, infix_of}
 use Rattle.smv_grammar.specs.Formulas.{Start, before_operand, bracket, of_atom, joining, start_of}
 use Rattle.smv_grammar.specs.IsMark.{is_mark}
 
--- what opens a nesting in which operands stand
+-- What opens a nesting: `(`, `{`, `case`, `count`, `next`, a function of one operand, `extend` or (with
+-- true) `resize`, `uwconst` or (with true) `swconst`.
 pub data Opener : Type 0 where
   round : Opener
   set : Opener
@@ -32,7 +33,8 @@ pub data Opener : Type 0 where
   widen : Bool → Opener
   const : Bool → Opener
 
--- what a primary expression begins with
+-- What a primary expression begins with: a truth value, the first name of a path, a number, a `-` that
+-- begins a range, a word constant, or what opens a nesting.
 pub data Primary : Type 0 where
   truth : Bool → Primary
   path : List ℕ → Primary
@@ -41,7 +43,8 @@ pub data Primary : Type 0 where
   word : Word → Primary
   opens : Opener → Primary
 
--- what a section holds
+-- What a section holds: variables, where the flag says whether instances may stand among them;
+-- definitions; assignments; one constraint; one property.
 pub data Heading : Type 0 where
   variables : Kind → Bool → Heading
   definitions : Heading
@@ -54,10 +57,11 @@ pub data Target : Type 0 where
   itself : List ℕ → Target
   of_moment : Moment → Target
 
--- What a token may be asked for: a mark, a name, a number, or a
--- number with its place; the beginning of a primary expression; a `-`
--- before an operand; a `;` before a further branch; an operator of a level; a beginning of any expression or formula; and so on of
--- formulas and programs.
+-- What a token may be asked for: a mark; a name; a number, without its place or with it; the beginning
+-- of a primary expression; a `-` before an operand; a `;` before a further branch of a case; an operator
+-- of a level; the beginning of any expression. Of formulas: an operator before one; a `(` that opens
+-- one; an operator of a level; the beginning of any formula. Of programs: the word of a section; the
+-- beginning of an assignment.
 pub data Key : Type 0 where
   mark : Mark → Key
   name : Key
@@ -122,6 +126,7 @@ abbrev pub as_function : Option Op1 → Option Primary
 as_function None = None
 as_function (Some o) = Some (opens (function o))
 
+-- what each mark begins: as an expression, as a section, as an assignment
 unfoldable pub primary_by : Mark → Option Primary
 primary_by marks.True = Some (truth true)
 primary_by marks.False = Some (truth false)
