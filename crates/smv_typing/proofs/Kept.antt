@@ -3,7 +3,8 @@ use Rattle.std.proofs.Common.{◌≡◌, refl, ap, sym, ◌∙◌}
 use Rattle.std.specs.Prelude.{Ok, Err}
 use Rattle.type_fault.proofs.Firsts.{earliest_both}
 use Rattle.smv_typing.specs.Judging.{Judgement, both, over}
-use Rattle.smv_typing.specs.Kept.{Kept, firsts, kept_both, kept_over}
+use Rattle.smv_typing.specs.Firsts.{Kept, firsts}
+use Rattle.smv_typing.specs.Kept.{kept_both, kept_over}
 
 over_kept : {A B : Type 0} (f : A → Judgement B) (x : Judgement A) → kept_over f (firsts x) ≡ firsts (over f x)
 unfolding over kept_over

@@ -1,4 +1,5 @@
 pub mod ByRules
+pub mod Firsts
 pub mod Kept
 pub mod Lists
 pub mod Parts

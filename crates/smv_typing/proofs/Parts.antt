@@ -6,7 +6,7 @@ use Rattle.smv_kinds.specs.declared.typing.Typing.{Typing}
 use Rattle.smv_typing.specs.declared.scope.Scope.{Scope}
 use Rattle.smv_typing.specs.declared.standing.Standing.{Standing}
 use Rattle.smv_typing.specs.Judging.{judged}
-use Rattle.smv_typing.specs.Kept.{Kept, firsts}
+use Rattle.smv_typing.specs.Firsts.{Kept, firsts}
 
 module _ (names : List (List ℕ) → Standing) (s : Scope) where
   pub of_part : {j : Kept Typing} {e d : Expr} → e ≡ d → j ≡ firsts (judged names s (expr_tree e)) → j ≡ firsts (judged names s (expr_tree d))

@@ -1,19 +1,11 @@
--- What is kept of a judgement: of all faults the first.
-use Rattle.std.specs.Prelude.{List, [], ◌∷◌, ◌++◌, Option, Result, Ok, Err}
+-- What is kept of a node, from what is kept of its parts.
+use Rattle.std.specs.Prelude.{List, [], ◌∷◌, ◌++◌, Ok, Err}
 use Rattle.smv_tree.specs.Trees.{Tree, expr_step, branch_step}
 use Rattle.smv_tree.specs.declared.expr.Branch.{Branch, fold-Branch}
 use Rattle.smv_kinds.specs.declared.typing.Typing.{Typing}
-use Rattle.type_fault.specs.declared.fault.TypeFault.{TypeFault}
-use Rattle.type_fault.specs.First.{earlier, earliest}
+use Rattle.type_fault.specs.First.{earlier}
 use Rattle.smv_typing.specs.Judging.{Judgement}
-
--- what is found where nothing is wrong, or the first fault, if there is one
-abbrev pub Kept : Type 0 → Type 0
-Kept A = Result A (Option TypeFault)
-
-abbrev pub firsts : {A : Type 0} → Judgement A → Kept A
-firsts (Ok a) = Ok a
-firsts (Err fs) = Err (earliest fs)
+use Rattle.smv_typing.specs.Firsts.{Kept, firsts}
 
 -- what two parts make, from what is kept of each
 unfoldable pub kept_both : {A B C : Type 0} → (A → B → C) → Kept A → Kept B → Kept C

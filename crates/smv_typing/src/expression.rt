@@ -2,7 +2,8 @@
 ghost use Rattle.std.specs.Prelude.{◌≡◌, IfOk, map};
 ghost use Rattle.smv_tree.specs.Trees.{expr_tree, trees, arms};
 ghost use Rattle.smv_typing.specs.Judging.{judged, all_judged, arms_judged, both, pair};
-ghost use Rattle.smv_typing.specs.Kept.{firsts, branch_trees};
+ghost use Rattle.smv_typing.specs.Firsts.{firsts};
+ghost use Rattle.smv_typing.specs.Kept.{branch_trees};
 
 use crate::judged::{append, append_branch, at, named, pair};
 use crate::nodes::{

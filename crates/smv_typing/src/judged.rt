@@ -1,7 +1,8 @@
 //! Judgements of nodes from those of their parts.
 ghost use Rattle.std.specs.Prelude.{◌≡◌, IfOk};
 ghost use Rattle.smv_typing.specs.Judging.{fault_at, at, named, pair};
-ghost use Rattle.smv_typing.specs.Kept.{firsts, kept_both, behind, arm_behind};
+ghost use Rattle.smv_typing.specs.Firsts.{firsts};
+ghost use Rattle.smv_typing.specs.Kept.{kept_both, behind, arm_behind};
 
 use crate::typings::Typings;
 use crate::{Scope, Standing};
@@ -15,7 +16,7 @@ use type_fault::{TypeFault, earlier};
 pub type Judged<T> = Result<T, Option<TypeFault>>;
 
 /// A fault of a node, at its place.
-fn fault_at(place: Place, fault: NodeFault) -> TypeFault
+pub(crate) fn fault_at(place: Place, fault: NodeFault) -> TypeFault
     ensures { result ≡ fault_at place fault }
 {
     match fault {

@@ -6,16 +6,22 @@
 //! all faults the first is answered. `specs/Judging.antt` has the definition, and `specs/Rules.antt`
 //! the rules by which an expression has a type.
 
+mod assignment;
 mod expression;
 mod judged;
 mod laws;
 mod nodes;
 mod scope;
 mod standing;
+mod target;
 mod typings;
+mod uses;
 
+pub use assignment::check_assignment;
 pub use expression::judge;
 pub use judged::Judged;
 pub use laws::types_are_by_the_rules;
 pub use scope::{DEFINITION, STATE, STEP, Scope};
 pub use standing::{Names, Standing};
+pub use target::{Target, excludes};
+pub use uses::{check_actual, check_body, check_constraint, check_type};

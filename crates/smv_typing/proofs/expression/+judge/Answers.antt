@@ -3,7 +3,8 @@ use Rattle.std.specs.Prelude.{Ok}
 use Rattle.smv_tree.specs.Trees.{expr_tree, trees, arms, set, cases, choice, two, select, next, widen, count}
 use Rattle.smv_tree.specs.declared.expr.Expr.TheFolds.{the_lemmas}
 use Rattle.smv_typing.specs.Judging.{judged, all_judged, arms_judged, both, pair, within_next, one_at, two_at, select_at, next_at, widen_at, set_at, count_at, cases_at, choice_at}
-use Rattle.smv_typing.specs.Kept.{firsts, branch_trees, behind, arm_behind}
+use Rattle.smv_typing.specs.Firsts.{firsts}
+use Rattle.smv_typing.specs.Kept.{branch_trees, behind, arm_behind}
 use Rattle.smv_typing.proofs.Kept.{over_firsts, both_firsts}
 use Rattle.smv_typing.proofs.Lists.{all_step, arms_step}
 use Rattle.smv_typing.proofs.Parts.{of_part, of_whole}

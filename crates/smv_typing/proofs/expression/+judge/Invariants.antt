@@ -1,7 +1,8 @@
 use Rattle.std.proofs.Common.{◌≡◌, map, take}
 use Rattle.smv_tree.specs.Trees.{expr_tree, trees, arms}
 use Rattle.smv_typing.specs.Judging.{all_judged, arms_judged}
-use Rattle.smv_typing.specs.Kept.{firsts, branch_trees}
+use Rattle.smv_typing.specs.Firsts.{firsts}
+use Rattle.smv_typing.specs.Kept.{branch_trees}
 use Rattle.smv_typing.proofs.expression.+judge.Given as goal
 
 abbrev pub invariant-judge_all-loop-e : goal.invariant-judge_all-loop-e
