@@ -12,7 +12,7 @@ use Rattle.smv_graph.specs.Graph.{module_number, graph_of, target_in, Leads, IsC
 none_in : {X : Type 0} (x : X) → Contains [] x → ⊥
 none_in x (k, l, e) = omega arith
 
-made_of : {X Y : Type 0} (f : X → Y) (xs : List X) (y : Y) → Contains (map f xs) y → (x : X) × (f x ≡ y)
+pub made_of : {X Y : Type 0} (f : X → Y) (xs : List X) (y : Y) → Contains (map f xs) y → (x : X) × (f x ≡ y)
 made_of f [] y c = absurd (none_in y c)
 made_of {X} {Y} f (x ∷ xs) y c = by_place (Contains-append_cases (f x ∷ []) (map f xs) y c) (made_of f xs y)
   where

@@ -1,3 +1,4 @@
 pub mod Numbering
 pub mod Graphs
 pub mod Queues
+pub mod Named

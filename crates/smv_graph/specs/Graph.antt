@@ -1,5 +1,5 @@
 -- The modules of a program as a graph: each leads to the modules of its instance variables.
-use Rattle.std.specs.Prelude.{◌<◌, ℕ, List, Contains, Option, Some, None, map, length, position, slice_get}
+use Rattle.std.specs.Prelude.{◌≡◌, ◌<◌, ℕ, List, Contains, Option, Some, None, map, length, position, slice_get}
 use Rattle.std.specs.Str.{bytes_eq}
 use Rattle.std.specs.Map.{lookup}
 use Rattle.smv_tree.specs.Models.{Body, Part, variable, instance}
@@ -35,3 +35,7 @@ IsClosed graph = (a b : ℕ) → Leads graph a b → b < length graph
 abbrev pub target_in : List (List ℕ × ℕ) → Part → Option ℕ
 target_in numbers (variable k n p (instance m q es)) = lookup (bytes_eq m) numbers
 target_in numbers _ = None
+
+-- the first module of the name has this number
+abbrev pub IsNumbered : List Body → List ℕ → ℕ → Type 0
+IsNumbered program m a = position (λ b. bytes_eq b.name m) program ≡ Some a

@@ -5,5 +5,8 @@
 mod cycle;
 mod graph;
 mod numbers;
+mod walks;
 
 pub use graph::Graph;
+pub use numbers::{Numbers, module_numbers};
+pub use walks::numbers_walk_as_names;

@@ -11,7 +11,7 @@ use std::marker::Model;
 
 /// Names with numbers, each name once.
 #[derive(Drop)]
-pub(crate) struct Numbers {
+pub struct Numbers {
     numbers: IndexMap<Vec<u8>, usize>,
 }
 
@@ -33,7 +33,7 @@ impl Numbers {
     }
 
     /// The number of a name, if it has one.
-    pub(crate) fn get(&self, name: &[u8]) -> Option<usize>
+    pub fn get(&self, name: &[u8]) -> Option<usize>
         ensures { result ≡ lookup (bytes_eq name.now) self.now }
     {
         self.numbers.get(name).copied()
@@ -55,7 +55,7 @@ impl Numbers {
 }
 
 /// The modules of a program by their names, each name with the first of its modules.
-pub(crate) fn module_numbers(alloc: Global, p: &Program) -> Result<Numbers, AllocError>
+pub fn module_numbers(alloc: Global, p: &Program) -> Result<Numbers, AllocError>
     ensures { IfOk result (λ n. (m : List ℕ) →
         lookup (bytes_eq m) n ≡ position (λ b. bytes_eq b.name m) (bodies p.now)) }
 {

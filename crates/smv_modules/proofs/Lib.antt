@@ -1,1 +1,3 @@
 pub mod Doubles
+pub mod Reached
+pub mod Counting

@@ -1,10 +1,12 @@
 #![tactic(auto)]
-//! The modules of a model before any expression is typed: whether each name is declared once, which
-//! modules `main` reaches and contains, and the instances that this makes.
+//! The modules of a model before any expression is typed: whether each name is declared once, and
+//! whether the modules that `main` reaches refer to modules that are there.
 //!
 //! Each pass has the list of its faults in `specs`, and answers the first of them.
 
 mod names;
+mod references;
 mod scope;
 
 pub use names::first_name_fault;
+pub use references::first_reference_fault;
