@@ -1,4 +1,5 @@
 pub mod Declarations
+pub mod Again
 pub mod Scopes
 pub mod References
 pub mod Counts
