@@ -3,3 +3,4 @@ pub mod Again
 pub mod Scopes
 pub mod References
 pub mod Counts
+pub mod Example
