@@ -1,3 +1,4 @@
 pub mod Doubles
+pub mod Agains
 pub mod Reached
 pub mod Counting
