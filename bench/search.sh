@@ -10,7 +10,7 @@ top=$(cd "$(dirname "$0")/.." && pwd)
 dir=$(mktemp -d)
 trap 'rm -rf "$dir"' EXIT
 mkdir -p "$dir/crates"
-crates='sat_log sat_trail sat_analysis sat_propagation sat_core'
+crates='sat_log sat_watch sat_trail sat_analysis sat_propagation sat_core'
 for crate in $crates; do
     mkdir "$dir/crates/$crate"
     (cd "$top/crates/$crate" && cp -r src specs proofs "$dir/crates/$crate")

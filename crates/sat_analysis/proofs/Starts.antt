@@ -1,6 +1,6 @@
 -- Where conflict analysis starts.
-use Rattle.std.proofs.Common.{◌≡◌, ◌≢◌, ℕ, zero, suc, ◌+◌, ◌-◌, ◌≤◌, Bool, ◌⊎◌, inl, inr, List, [], ◌∷◌, length, take, drop, ap, sym, subst, arith}
-use Rattle.std.proofs.lemmas.List.{drop_all, take-append-drop}
+use Rattle.std.proofs.Common.{◌≡◌, ◌≢◌, ℕ, ◌+◌, ◌-◌, ◌≤◌, Bool, ◌⊎◌, inl, inr, List, [], ◌∷◌, length, take, drop, ap, sym, subst, arith}
+use Rattle.std.proofs.lemmas.List.{take-append-drop}
 use Rattle.std.proofs.lemmas.Bool.{cases_eq}
 use Rattle.std.specs.List.{AllByRecursion}
 use Rattle.sat_log.specs.Literal.{Literal, negated, packed}
@@ -63,15 +63,6 @@ module _ (log : List LogLine) (entries rest : List Entry) (id : ℕ) (l : Litera
   pub implied_starts : (old seen : List Bool) → IsUnmarked old → MarksOthers (literals entries) r.clause old seen → HasDistinctVariables (literals rest) → AllByRecursion (λ e. e.literal.var ≢ l.var) rest → length rest + 1 ≤ room seen → IsAnalysis log rest (record { seen = seen; lits = l ∷ []; hints = id ∷ [] })
   implied_starts old seen clear marks distinct apart fits =
       start log rest (literals entries) r.clause id old seen (l ∷ []) r.named distinct clear marks implied_false_in kept_or_false (tt, tt) (All-map (λ e. e.literal.var ≢ l.var) (λ e. AllByRecursion (λ k. k.var ≢ e.literal.var) (l ∷ [])) rest (λ e ne. ((λ v. ne (sym v)), tt)) apart) (r.implies.stands, tt) (omega arith) (omega arith)
-
--- a part of the trail
-pub bottom_inside : (i : ℕ) (entries : List Entry) (k : Literal) → Among (literals (bottom i entries)) k → Among (literals entries) k
-bottom_inside i entries k m = from_drop (length entries - i) entries k m
-  where
-    from_drop : (n : ℕ) (es : List Entry) (k : Literal) → Among (literals (drop n es)) k → Among (literals es) k
-    from_drop zero es k m = m
-    from_drop (suc n) [] k m = m
-    from_drop (suc n) (e ∷ es) k m = inr (from_drop n es k m)
 
 pub bottom_distinct : (log : List LogLine) (i : ℕ) (entries : List Entry) → IsTrail log entries → HasDistinctVariables (literals (bottom i entries))
 bottom_distinct log i entries t =

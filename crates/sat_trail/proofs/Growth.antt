@@ -39,6 +39,15 @@ adds_one old new e a h =
 pub adds_longer : (old new : List Entry) → AddsImplied old new → length old ≤ length new
 adds_longer old new a = omega (arith, ap length a.same, length-append a.added old)
 
+-- two pieces of a trail's growth
+pub adds_twice : (old mid new : List Entry) → AddsImplied old mid → AddsImplied mid new → AddsImplied old new
+adds_twice old mid new a b =
+    record {
+      added = b.added ++ a.added;
+      same = b.same ∙ ap (λ (es : List Entry). b.added ++ es) a.same ∙ sym (append_assoc b.added a.added old);
+      implied = All-append (λ (e : Entry). IsSome e.reason) b.added a.added b.implied a.implied;
+    }
+
 line_stays : (log : List LogLine) (line : LogLine) (i : ℕ) (c : List Literal) → option_and_then (λ (l : LogLine). hinted l.kind l.lits) (slice_get log i) ≡ Some c → option_and_then (λ (l : LogLine). hinted l.kind l.lits) (slice_get (log ++ line ∷ []) i) ≡ Some c
 line_stays [] line i c e = absurd cc
 line_stays (x ∷ log) line zero c e = e

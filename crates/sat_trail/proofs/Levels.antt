@@ -1,5 +1,5 @@
 -- The entries of a trail, and those of earlier levels.
-use Rattle.std.proofs.Common.{◌≡◌, ◌≢◌, ℕ, ◌+◌, ◌<◌, ◌≤◌, Bool, true, false, cond, ltb, ◌⊎◌, inl, inr, List, [], ◌∷◌, ◌++◌, refl, ap, sym, subst, ◌∙◌, arith, length}
+use Rattle.std.proofs.Common.{◌≡◌, ◌≢◌, ℕ, ◌+◌, ◌<◌, ◌≤◌, Bool, true, false, cond, ltb, ◌⊎◌, inl, inr, List, [], ◌∷◌, ◌++◌, refl, ap, sym, subst, ◌∙◌, arith, length, zero, suc, drop, ◌-◌}
 use Rattle.std.specs.Prelude.{Option, None, Some}
 use Rattle.std.specs.List.{AllByRecursion}
 use Rattle.std.proofs.lemmas.Bool.{cases_lt, lt-ltb, le-ltb}
@@ -7,7 +7,7 @@ use Rattle.sat_log.specs.Literal.{Literal, negated}
 use Rattle.sat_log.specs.Clause.{Among, IsUnset, HasDistinctVariables}
 use Rattle.sat_log.specs.declared.line.LogLine.{LogLine}
 use Rattle.sat_log.proofs.LiteralLemmas.{All-among}
-use Rattle.sat_trail.specs.Trail.{literals, top, before}
+use Rattle.sat_trail.specs.Trail.{literals, top, before, bottom}
 use Rattle.sat_trail.specs.Units.{HasCause, IsTrail}
 use Rattle.sat_trail.proofs.Literals.{apart_not_among}
 use Rattle.sat_trail.proofs.Lists.{All-map, All-both}
@@ -144,3 +144,12 @@ top_length log (e ∷ entries) t =
     by_reason : (reason : Option ℕ) → HasCause log entries e.literal e.level reason → top entries ≤ length entries → e.level ≤ length (e ∷ entries)
     by_reason None c below = omega (arith, c)
     by_reason (Some id) c below = omega (arith, c.0)
+
+-- a part of the trail
+pub bottom_inside : (i : ℕ) (entries : List Entry) (k : Literal) → Among (literals (bottom i entries)) k → Among (literals entries) k
+bottom_inside i entries k m = from_drop (length entries - i) entries k m
+  where
+    from_drop : (n : ℕ) (es : List Entry) (k : Literal) → Among (literals (drop n es)) k → Among (literals es) k
+    from_drop zero es k m = m
+    from_drop (suc n) [] k m = m
+    from_drop (suc n) (e ∷ es) k m = inr (from_drop n es k m)

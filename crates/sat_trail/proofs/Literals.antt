@@ -1,5 +1,5 @@
 -- Literals whose variables are those of no literal that is set.
-use Rattle.std.proofs.Common.{◌≡◌, ◌≢◌, ◌⊎◌, inl, inr, List, [], ◌∷◌, length, ap, ℕ, ◌+◌, ◌<◌, zero, suc, get_or, refl, sym, arith}
+use Rattle.std.proofs.Common.{◌≡◌, ◌≢◌, ◌⊎◌, inl, inr, List, [], ◌∷◌, length, ap, ℕ, ◌<◌, zero, suc, get_or, sym, arith}
 use Rattle.std.specs.List.{AllByRecursion}
 use Rattle.sat_log.specs.Literal.{Literal, negated}
 use Rattle.sat_log.specs.Clause.{Among, IsUnset}

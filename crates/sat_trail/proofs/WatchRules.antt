@@ -12,7 +12,7 @@ use Rattle.sat_trail.proofs.Levels.{before_before}
 use Rattle.sat_trail.specs.declared.trail.Entry.{Entry}
 
 -- a literal is set, or it isn't
-set_or_not : (set : List Literal) (l : Literal) → Among set l ⊎ (¬ Among set l)
+pub set_or_not : (set : List Literal) (l : Literal) → Among set l ⊎ (¬ Among set l)
 set_or_not set l = by (is_set set l) refl
   where
     by : (b : Bool) → is_set set l ≡ b → Among set l ⊎ (¬ Among set l)
@@ -76,7 +76,7 @@ before_higher n m (e ∷ entries) h = by_level (cases_lt e.level m) (before_high
 abbrev Backs : Literal → Literal → List Entry → Type 0
 Backs a b entries = Among (literals entries) (negated a) → Among (literals entries) b
 
-backed_before : (most m any : ℕ) (entries : List Entry) (a b : Literal) → m ≤ most → IsBacked most entries a b → IsBacked any (before m entries) a b
+pub backed_before : (most m any : ℕ) (entries : List Entry) (a b : Literal) → m ≤ most → IsBacked most entries a b → IsBacked any (before m entries) a b
 backed_before most m any entries a b h k level within = by (cases_lt level m)
   where
     by : (level < m) ⊎ (m ≤ level) → Backs a b (before level (before m entries))

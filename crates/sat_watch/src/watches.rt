@@ -107,7 +107,8 @@ impl Watches {
     /// The first clause that watches a literal.
     pub fn first(&self, literal: SLit) -> Option<usize>
         requires { HasPlace self.now literal }
-        ensures { result ≡ first_of (watchers self.now literal) }
+        ensures value { result ≡ first_of (watchers self.now literal) }
+        ensures exact { IsWatching self.now }
     {
         self.heads[literal.index()]
     }
@@ -116,7 +117,8 @@ impl Watches {
     pub fn next(&self, literal: SLit, clause: usize) -> Option<usize>
         requires place { HasPlace self.now literal }
         requires watches { IsAmong (watchers self.now literal) clause }
-        ensures { result ≡ next_of (watchers self.now literal) clause }
+        ensures value { result ≡ next_of (watchers self.now literal) clause }
+        ensures exact { IsWatching self.now }
     {
         self.records[clause].next(literal)
     }

@@ -1,9 +1,9 @@
 use Rattle.std.proofs.Common.{◌≡◌, ◌+◌, ◌≤◌, [], ◌∷◌, ◌++◌, length, ap, sym, subst, ◌∙◌, arith}
 use Rattle.sat_trail.specs.Trail.{literals, bottom}
 use Rattle.sat_analysis.specs.Analysis.{Analyzed, room, MarksOthers, IsAnalysis, AreNegationsOf}
-use Rattle.sat_trail.proofs.Levels.{trail_distinct}
+use Rattle.sat_trail.proofs.Levels.{trail_distinct, bottom_inside}
 use Rattle.sat_analysis.proofs.Visits.{analyzed_is, bottom_length}
-use Rattle.sat_analysis.proofs.Starts.{bottom_inside, bottom_distinct, implied_starts}
+use Rattle.sat_analysis.proofs.Starts.{bottom_distinct, implied_starts}
 use Rattle.sat_analysis.proofs.analysis.Analysis.refute_from.Goals as goal
 
 pub resolve-marked-requires-clause-distinct : goal.resolve-marked-requires-clause-distinct

@@ -1,0 +1,84 @@
+-- How the clauses of a log are watched, and what that keeps while literals become true.
+use Rattle.std.specs.Prelude.{◌≡◌, ◌≢◌, ◌<◌, ℕ, Some, List, length, slice_index_or}
+use Rattle.sat_log.specs.Literal.{Literal, negated}
+use Rattle.sat_log.specs.Clause.{Among}
+use Rattle.sat_log.specs.Accepted.{clause_at}
+use Rattle.sat_log.specs.declared.line.LogLine.{LogLine}
+use Rattle.sat_watch.specs.Watched.{Pair, Watched, pair_at, HasWatch, set_pair, Moves}
+use Rattle.sat_trail.specs.Trail.{literals, top}
+use Rattle.sat_trail.specs.Units.{IsConflict}
+use Rattle.sat_trail.specs.WatchRule.{IsBacked}
+use Rattle.sat_trail.specs.declared.trail.Entry.{Entry}
+use Rattle.sat_propagation.specs.declared.propagation.Visit.{Visit}
+use Rattle.sat_propagation.specs.declared.propagation.Visit.TheVariants.{Kept, Moved, Conflict}
+
+-- the watches, the id of the line for which each watches (0 where it watches for none), and how many entries of the trail
+-- were looked at
+pub record Propagated : Type 0 where
+  pub watched : Watched
+  pub ids : List ℕ
+  pub looked : ℕ
+
+-- the id of the line for which this one watches
+abbrev pub line_of : Propagated → ℕ → ℕ
+line_of p w = slice_index_or p.ids w 0
+
+abbrev pub IsUsed : Propagated → ℕ → Type 0
+IsUsed p w = (w < length p.watched.pairs) × (line_of p w ≢ 0)
+
+-- where these literals are set, a clause that watches two may watch this one in place of one of them: it is not false
+pub record MayWatch (set : List Literal) (one other l : Literal) : Type 0 where
+  pub not_one : l ≢ one
+  pub not_other : l ≢ other
+  pub not_false : ¬ Among set (negated l)
+
+-- both literals stand in the clause of this id
+pub record StandsFor (log : List LogLine) (id : ℕ) (pair : Pair) : Type 0 where
+  pub clause : List Literal
+  pub named : clause_at log id ≡ Some clause
+  pub stands : (l : Literal) → HasWatch pair l → Among clause l
+
+abbrev pub AreStanding : List LogLine → Propagated → Type 0
+AreStanding log p = (w : ℕ) → IsUsed p w → StandsFor log (line_of p w) (pair_at p.watched w)
+
+-- Where the first is false in the part of the trail that was looked at, or in the trail as it stood when a level opened,
+-- the second is true.
+pub record Backs (part entries : List Entry) (a b : Literal) : Type 0 where
+  pub earlier : IsBacked (top entries) entries a b
+  pub now : Among (literals part) (negated a) → Among (literals entries) b
+
+-- each of the two is so by the other
+abbrev pub KeepsPair : List Entry → List Entry → Pair → Type 0
+KeepsPair part entries pair = (a b : Literal) → HasWatch pair a → HasWatch pair b → a ≢ b → Backs part entries a b
+
+-- the watch rule
+abbrev pub KeepsRule : List Entry → List Entry → Propagated → Type 0
+KeepsRule part entries p = (w : ℕ) → IsUsed p w → KeepsPair part entries (pair_at p.watched w)
+
+-- these entries are some of those
+abbrev pub IsPart : List Entry → List Entry → Type 0
+IsPart part entries = (l : Literal) → Among (literals part) l → Among (literals entries) l
+
+-- the other literal that it watches is true
+abbrev pub IsSettled : Propagated → List Entry → Literal → ℕ → Type 0
+IsSettled p entries l w =
+    line_of p w ≢ 0 → (k : Literal) → HasWatch (pair_at p.watched w) k → k ≢ l → Among (literals entries) k
+
+-- so it is with each that watches the literal
+abbrev pub AreSettled : Propagated → List Entry → Literal → Type 0
+AreSettled p entries l = (w : ℕ) → w < length p.watched.pairs → HasWatch (pair_at p.watched w) l → IsSettled p entries l w
+
+-- it watches another literal in place of this one
+pub record MovesAway (old new : Propagated) (l : Literal) (w : ℕ) : Type 0 where
+  pub to : Literal
+  pub lists : Moves old.watched new.watched l to w
+  pub pairs : new.watched.pairs ≡ set_pair old.watched.pairs w l to
+  pub ids : new.ids ≡ old.ids
+  pub looked : new.looked ≡ old.looked
+  pub apart : to ≢ l
+
+-- what comes of a visit of one that watches a literal which became false
+abbrev pub VisitsTo : List LogLine → List Entry → Propagated → Propagated → Literal → ℕ → Visit → Type 0
+VisitsTo log entries old new l w Kept = (new ≡ old) × IsSettled new entries l w
+VisitsTo log entries old new l w Moved = MovesAway old new l w
+VisitsTo log entries old new l w (Conflict id) = (new ≡ old) × IsConflict log (literals entries) id
