@@ -1,8 +1,9 @@
 -- What rows of literals tell.
-use Rattle.std.proofs.Common.{◌≡◌, ℕ, replicate, ◌+◌, ◌<◌, ◌≤◌, Bool, true, false, List, [], ◌∷◌, ◌++◌, length, inl, inr, refl, sym, ap, subst, ◌∙◌, arith}
-use Rattle.std.specs.Prelude.{slice_set, Result, Ok, Err, IfOk}
+use Rattle.std.proofs.Common.{◌&&◌, ◌≡◌, ℕ, replicate, ◌+◌, ◌<◌, ◌≤◌, Bool, true, false, List, [], ◌∷◌, ◌++◌, length, inl, inr, refl, sym, ap, subst, ◌∙◌, arith}
+use Rattle.std.specs.Prelude.{nat_lt, slice_set, Result, Ok, Err, IfOk}
 use Rattle.std.specs.declared.alloc.AllocError.{AllocError}
-use Rattle.ltl_form.proofs.Rowwise.{around_found, around_row}
+use Rattle.ltl_form.proofs.Rowwise.{around_found, around_row, ahead_same, short_next}
+use Rattle.smv_meaning.specs.Sweeps.{ahead}
 use Rattle.std.proofs.lemmas.Bool.{cases_lt}
 use Rattle.std.proofs.lemmas.List.{get_or-map, map-append, length-map, length_push, get_or_append_left, get_or_push, get_or-replicate, length-replicate, get_or-set_same, get_or-set_other, length-set}
 use Rattle.gates.specs.Literal.{Literal, always}
@@ -166,3 +167,38 @@ covers_told values table states nodes c = record {
       ap (λ (r : List Bool). length r) (row_at_told values table a) ∙ length_values values (lits_at table a) ∙ c.states_each a (omega arith);
   atoms = λ i w. subst (λ m. AtomWithin m (node_at nodes i)) (sym (length-map table (values_of values))) (c.atoms i w);
 }
+
+-- one sweep over tests that agree with others
+pub ahead_other : (k : ℕ) (f g h i : ℕ → Bool) (row : List Bool) → ((q : ℕ) → q < k → f q ≡ h q) → ((q : ℕ) → q < k → g q ≡ i q) → IsRow k (ahead k f g false) row → IsRow k (ahead k h i false) row
+ahead_other k f g h i row d e r = record { has = r.has; values = λ p w. r.values p w ∙ ahead_same k f g h i false p (omega arith) d e }
+
+-- the literals of the next places of a path, which ends with the last one
+pub path_next : (g : List Node) (rows : List (List Literal)) (k a : ℕ) (r : Result (List Literal) AllocError) (part : List Literal) (x : Literal) → part ≡ lits_at rows a → length part ≡ k + 1 → ((values : List Bool) → IsValuation g values → value_of values x ≡ false)
+    → IfOk r (λ row. length row ≡ length part) → ((p : ℕ) → p + 1 < length part → IfOk r (λ row. lit_at row p ≡ lit_at part (p + 1))) → IfOk r (λ row. (p : ℕ) → p + 1 ≡ length part → lit_at row p ≡ x)
+    → IfOk r (λ row. (values : List Bool) → IsValuation g values → IsRow (k + 1) (λ p. nat_lt p k && told (row_at (told_rows values rows) a) (p + 1)) (values_of values row))
+path_next g rows k a (Ok row) part x e m z n s t = λ values v.
+    let bs = values_of values part in
+    let long : length bs ≡ k + 1 = length_values values part ∙ m in
+    let same : bs ≡ row_at (told_rows values rows) a = ap (values_of values) e ∙ sym (row_at_told values rows a) in
+    let all : IsRow (k + 1) (λ p. nat_lt p k && told bs (p + 1)) (values_of values row) = short_next bs k (Ok (values_of values row)) long
+    (length_values values row ∙ n ∙ sym (length_values values part))
+    (λ p w. told_value values row p (omega (arith, length_values values part)) ∙ ap (value_of values) (s p (omega (arith, length_values values part))) ∙ sym (told_value values part (p + 1) (omega (arith, length_values values part))))
+    (λ p w. told_value values row p (omega (arith, length_values values part)) ∙ ap (value_of values) (t p (omega (arith, length_values values part))) ∙ z values v) in
+    subst (λ (b : List Bool). IsRow (k + 1) (λ p. nat_lt p k && told b (p + 1)) (values_of values row)) same all
+path_next g rows k a (Err y) part x e m z n s t = tt
+
+pub path_next_belongs : (g : List Node) (r : Result (List Literal) AllocError) (part : List Literal) (x : Literal) → RowBelongs g part → Belongs g x → IfOk r (λ row. length row ≡ length part) → ((p : ℕ) → p + 1 < length part → IfOk r (λ row. lit_at row p ≡ lit_at part (p + 1))) → IfOk r (λ row. (p : ℕ) → p + 1 ≡ length part → lit_at row p ≡ x) → IfOk r (RowBelongs g)
+path_next_belongs g (Ok row) part x b h n s t = λ p w. elim (cases_lt (p + 1) (length part)) [
+  | inl more ↦ subst (Belongs g) (sym (s p more)) (b (p + 1) more)
+  | inr end ↦ subst (Belongs g) (sym (t p (omega arith))) h
+]
+path_next_belongs g (Err y) part x b h n s t = tt
+
+-- a row that is false at each place
+pub false_row : (g : List Node) (n : ℕ) (r : Result (List Literal) AllocError) (x : Literal) → IfOk r (λ row. row ≡ replicate n x) → ((values : List Bool) → IsValuation g values → value_of values x ≡ false) → IfOk r (λ row. (values : List Bool) → IsValuation g values → IsRow n (λ p. false) (values_of values row))
+false_row g n (Ok row) x e z = λ values v. record { has = length_values values row ∙ filled_length row n x e; values = λ p w. whole_told values row n x false p e (z values v) w }
+false_row g n (Err y) x e z = tt
+
+pub false_belongs : (g : List Node) (n : ℕ) (r : Result (List Literal) AllocError) (x : Literal) → IfOk r (λ row. row ≡ replicate n x) → Belongs g x → IfOk r (RowBelongs g)
+false_belongs g n (Ok row) x e h = subst (RowBelongs g) (sym e) (filled_belongs g n x h)
+false_belongs g n (Err y) x e h = tt

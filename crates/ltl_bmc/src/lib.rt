@@ -1,7 +1,7 @@
 #![tactic(auto)]
-//! Formulas of linear temporal logic on lassos, as gates.
+//! Formulas of linear temporal logic on lassos and paths, as gates.
 //!
-//! `encode_loop` gives a literal whose value is the truth of a formula in negation
+//! `encode_loop` and `encode_short` give a literal whose value is the truth of a formula in negation
 //! normal form at the first place, whatever values the literals of its atoms have. Each node of the
 //! formula has one row of literals, made from the rows of its parts from the last place to the first,
 //! around a loop twice; so the gates are at most linear in the nodes times the places, and equal parts of
@@ -9,9 +9,11 @@
 
 mod literal;
 mod loops;
+mod paths;
 mod row;
 mod sweeps;
 mod table;
 
 pub use loops::encode_loop;
+pub use paths::encode_short;
 pub use table::LitTable;

@@ -185,3 +185,47 @@ pub(crate) fn along(
     sweep(g, &mut row, first, second, false, constant(false), 0)?;
     Ok(row)
 }
+
+/// `along` with all places as the first.
+pub(crate) fn along_whole(
+    alloc: Global,
+    g: &mut Gates,
+    second: &LitRow,
+) -> Result<LitRow, AllocError>
+    requires constant { 0 < length g.old }
+    requires second { RowBelongs g.old second.now }
+    ensures places { IfOk result (λ row. length row ≡ length second.now) }
+    ensures values { IfOk result (λ row. (values : List Bool) → IsValuation g.new values →
+        IsRow (length second.now) (ahead (length second.now) (λ _. true) (told (values_of values second.now)) false)
+        (values_of values row)) }
+    ensures belongs { IfOk result (RowBelongs g.new) }
+    ensures grows { Grows g.old g.new }
+    ensures conjunctions { AddsConjunctions g.old g.new }
+{
+    let whole = LitRow::filled(alloc, second.len(), constant(true))?;
+    along(alloc, g, &whole, second)
+}
+
+/// `along` of the second and of both.
+pub(crate) fn along_both(
+    alloc: Global,
+    g: &mut Gates,
+    first: &LitRow,
+    second: &LitRow,
+) -> Result<LitRow, AllocError>
+    requires constant { 0 < length g.old }
+    requires places { length first.now ≡ length second.now }
+    requires first { RowBelongs g.old first.now }
+    requires second { RowBelongs g.old second.now }
+    ensures places { IfOk result (λ row. length row ≡ length second.now) }
+    ensures values { IfOk result (λ row. (values : List Bool) → IsValuation g.new values →
+        IsRow (length second.now) (ahead (length second.now) (told (values_of values second.now))
+        (λ q. told (values_of values first.now) q && told (values_of values second.now) q) false)
+        (values_of values row)) }
+    ensures belongs { IfOk result (RowBelongs g.new) }
+    ensures grows { Grows g.old g.new }
+    ensures conjunctions { AddsConjunctions g.old g.new }
+{
+    let joint = join_rows(alloc, g, first, second, false)?;
+    along(alloc, g, second, &joint)
+}
