@@ -15,7 +15,7 @@ use Rattle.smv_typing.specs.Uses.{listed, used}
 pub two_first : (fs gs : List TypeFault) {f g r : Option TypeFault} → f ≡ earliest fs → g ≡ earliest gs → r ≡ earlier f g → r ≡ earliest (fs ++ gs)
 two_first fs gs {f} {g} h i e = e ∙ (ap (λ x. earlier x g) h ∙ (ap (earlier (earliest fs)) i ∙ sym (earliest_both fs gs)))
 
-abbrev the_kept : Typing → Kept Typing → Typing
+abbrev pub the_kept : Typing → Kept Typing → Typing
 the_kept d (Ok t) = t
 the_kept d (Err f) = d
 

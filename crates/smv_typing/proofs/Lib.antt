@@ -1,3 +1,4 @@
+pub mod Atoms
 pub mod ByRules
 pub mod Firsts
 pub mod Kept

@@ -3,3 +3,5 @@ pub mod Firsts
 pub mod Kept
 pub mod Rules
 pub mod Uses
+pub mod Formulas
+pub mod Found

@@ -8,6 +8,7 @@
 
 mod assignment;
 mod expression;
+mod formula;
 mod judged;
 mod laws;
 mod nodes;
@@ -19,6 +20,7 @@ mod uses;
 
 pub use assignment::check_assignment;
 pub use expression::judge;
+pub use formula::check_formula;
 pub use judged::Judged;
 pub use laws::types_are_by_the_rules;
 pub use scope::{DEFINITION, STATE, STEP, Scope};

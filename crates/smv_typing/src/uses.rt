@@ -23,7 +23,7 @@ pub(crate) fn listed(place: Place, fault: Option<NodeFault>) -> Option<TypeFault
 }
 
 /// The place that an expression carries.
-fn place_in(e: &Expr) -> Place
+pub(crate) fn place_in(e: &Expr) -> Place
     ensures { result ≡ place_in (expr_tree e.now) }
 {
     match e {
