@@ -16,6 +16,7 @@ mod word;
 
 pub use fault::OptFault;
 pub use given::{Given, OptTexts};
+pub use next::begins_with_dash;
 pub use read::read_options;
 pub use table::{Opt, Table, Takes};
 pub use word::{FreeWord, OptWord};

@@ -136,7 +136,8 @@ fn place_of(opts: &[Opt], word: &[u8]) -> Option<usize>
     opts.iter().position(|opt| opt.word.text() == word)
 }
 
-fn begins_with_dash(word: &[u8]) -> bool
+/// Whether a word begins with `-`.
+pub fn begins_with_dash(word: &[u8]) -> bool
     ensures { result ≡ begins_with_dash word.now }
 {
     match word {

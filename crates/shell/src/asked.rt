@@ -1,8 +1,8 @@
 ghost use Rattle.std.specs.Prelude.{◌≡◌, ◌≤◌, drop, length, option_map};
-ghost use Rattle.cmd_table.specs.Options.{begins_with_dash};
 ghost use Rattle.shell.specs.AskedViews.{asked_of};
 ghost use Rattle.shell.specs.Sessions.{asked_by, nothing_asked, with_model_file, with_prompts, with_script, with_word};
 
+use cmd_table::begins_with_dash;
 use outside::Text;
 
 /// What the words of the program ask for.
@@ -14,16 +14,6 @@ pub struct Wanted<'a> {
     pub script: Option<&'a Text>,
     /// The model's file.
     pub model: Option<&'a Text>,
-}
-
-// Whether a word begins with `-`.
-fn begins_with_dash(word: &[u8]) -> bool
-    ensures { result ≡ begins_with_dash word.now }
-{
-    match word {
-        [first, ..] => *first == b'-',
-        [] => false,
-    }
 }
 
 // Prompts are asked for, which may be done once.

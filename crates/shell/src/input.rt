@@ -7,7 +7,7 @@ ghost use Rattle.shell.specs.Sessions.{DoesInput, DoesRecalled, remembered};
 
 use crate::lines::{do_line, refuse_line};
 use outside::Text;
-use shell_lang::recall;
+use shell_lang::{is_blank, recall};
 use shell_world::{End, Outside, State, lack_memory};
 use std::alloc::{AllocError, Global};
 
@@ -15,10 +15,10 @@ use std::alloc::{AllocError, Global};
 pub(crate) const DEPTH: u32 = 16;
 
 // Whether a line has nothing but blanks and tabs.
-fn is_blank(line: &[u8]) -> bool
+fn has_blanks_alone(line: &[u8]) -> bool
     ensures { result ≡ list_all is_blank line.now }
 {
-    line.iter().all(|byte| *byte == b' ' || *byte == b'\t')
+    line.iter().all(|byte| is_blank(*byte))
 }
 
 // Remembers a line, unless it is blank.
@@ -28,7 +28,7 @@ fn remember(state: &mut State, line: &Text) -> Result<(), AllocError>
     ensures err { OnErr result (state.new ≡ state.old) }
     ensures count { state.new.past.count ≤ state.old.past.count + 1 }
 {
-    if is_blank(line.as_slice()) {
+    if has_blanks_alone(line.as_slice()) {
         return Ok(());
     }
     state.past.add(line)

@@ -63,7 +63,8 @@ fn is_plain(byte: u8) -> bool
     !(is_blank(byte) || byte == b'"' || byte == b'#' || byte == b'$' || byte == b';')
 }
 
-fn is_blank(byte: u8) -> bool
+/// Whether a byte parts words: a blank or a tab.
+pub fn is_blank(byte: u8) -> bool
     ensures { result ≡ is_blank byte }
 {
     byte == b' ' || byte == b'\t'
