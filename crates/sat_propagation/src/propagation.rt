@@ -145,7 +145,8 @@ impl Propagation {
         requires exact { IsWatching self.old.watched }
         requires stands { after (watchers self.old.watched literal) before ≡ Some watcher }
         requires standing { AreStanding log.now self.old }
-        ensures visit { VisitsTo log.now trail.new.entries self.old self.new literal watcher result }
+        ensures visit { VisitsTo log.now trail.new.entries self.old self.new
+            literal watcher result }
         ensures standing { AreStanding log.now self.new }
         ensures rule { (part : List Entry) → IsPart part trail.old.entries →
             KeepsRule part trail.old.entries self.old → KeepsRule part trail.new.entries self.new }
@@ -222,11 +223,13 @@ impl Propagation {
         requires exist { AreUpTo trail.old.variables log.now }
         requires places { places trail.old.variables ≤ length self.old.watched.lists }
         requires standing { AreStanding log.now self.old }
-        requires rule { KeepsRule (bottom self.old.looked trail.old.entries) trail.old.entries self.old }
+        requires rule { KeepsRule (bottom self.old.looked trail.old.entries)
+            trail.old.entries self.old }
         ensures conflict { IfSome result (IsConflict log.now (literals trail.new.entries)) }
         ensures all { IfNone result (length trail.new.entries ≤ self.new.looked) }
         ensures standing { AreStanding log.now self.new }
-        ensures rule { KeepsRule (bottom self.new.looked trail.new.entries) trail.new.entries self.new }
+        ensures rule { KeepsRule (bottom self.new.looked trail.new.entries)
+            trail.new.entries self.new }
         ensures trail { IsTrail log.now trail.new.entries }
         ensures implied { AddsImplied trail.old.entries trail.new.entries }
         ensures variables { trail.new.variables ≡ trail.old.variables }
