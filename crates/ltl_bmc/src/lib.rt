@@ -1,11 +1,11 @@
 #![tactic(auto)]
 //! Formulas of linear temporal logic on lassos and paths, as gates.
 //!
-//! `encode_loop` and `encode_short` give a literal whose value is the truth of a formula in negation
-//! normal form at the first place, whatever values the literals of its atoms have. Each node of the
-//! formula has one row of literals, made from the rows of its parts from the last place to the first,
-//! around a loop twice; so the gates are at most linear in the nodes times the places, and equal parts of
-//! different loops are found by the gates' hashing.
+//! `encode_loop` and `encode_short` give a literal whose value is the truth of a formula in
+//! negation normal form at the first place, whatever values the literals of its atoms have. Each
+//! node of the formula has one row of literals, made from the rows of its parts from the last
+//! place to the first, around a loop twice; so the gates are at most linear in the nodes times
+//! the places, and equal parts of different loops are found by the gates' hashing.
 
 mod literal;
 mod loops;

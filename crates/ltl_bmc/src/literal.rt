@@ -13,7 +13,8 @@ use std::alloc::AllocError;
 /// A literal that is always true, or always false.
 pub(crate) fn constant(value: bool) -> Lit
     ensures node { result.node ≡ 0 }
-    ensures value { (nodes : List Node) (values : List Bool) → IsValuation nodes values → value_of values result ≡ value }
+    ensures value { (nodes : List Node) (values : List Bool) → IsValuation nodes values →
+        value_of values result ≡ value }
 {
     if value { Lit::TRUE } else { Lit::FALSE }
 }
@@ -22,7 +23,8 @@ pub(crate) fn constant(value: bool) -> Lit
 pub(crate) fn signed(a: Lit, negated: bool) -> Lit
     ensures literal { result ≡ signed_lit negated a }
     ensures node { result.node ≡ a.node }
-    ensures value { (values : List Bool) → value_of values result ≡ turned negated (value_of values a) }
+    ensures value { (values : List Bool) → value_of values result ≡
+        turned negated (value_of values a) }
 {
     if negated { lit_not(a) } else { a }
 }
@@ -32,7 +34,8 @@ pub(crate) fn join(g: &mut Gates, a: Lit, b: Lit, dual: bool) -> Result<Lit, All
     requires first { Belongs g.old a }
     requires second { Belongs g.old b }
     ensures meaning { IfOk result (λ l. (values : List Bool) → IsValuation g.new values →
-        value_of values l ≡ turned dual (turned dual (value_of values a) && turned dual (value_of values b))) }
+        value_of values l ≡ turned dual (turned dual (value_of values a) &&
+        turned dual (value_of values b))) }
     ensures belongs { IfOk result (Belongs g.new) }
     ensures grows { Grows g.old g.new }
     ensures conjunctions { AddsConjunctions g.old g.new }
@@ -41,7 +44,8 @@ pub(crate) fn join(g: &mut Gates, a: Lit, b: Lit, dual: bool) -> Result<Lit, All
     Ok(signed(joined, dual))
 }
 
-/// One step of a sweep: the second, or the first and what comes after; or the dual of it. Two gates.
+/// One step of a sweep: the second, or the first and what comes after; or the dual of it. Two
+/// gates.
 pub(crate) fn step(
     g: &mut Gates,
     first: Lit,
@@ -53,7 +57,8 @@ pub(crate) fn step(
     requires second { Belongs g.old second }
     requires after { Belongs g.old after }
     ensures meaning { IfOk result (λ l. (values : List Bool) → IsValuation g.new values →
-        value_of values l ≡ turned dual (turned dual (value_of values second) || (turned dual (value_of values first) && turned dual (value_of values after)))) }
+        value_of values l ≡ turned dual (turned dual (value_of values second) ||
+        (turned dual (value_of values first) && turned dual (value_of values after)))) }
     ensures belongs { IfOk result (Belongs g.new) }
     ensures grows { Grows g.old g.new }
     ensures conjunctions { AddsConjunctions g.old g.new }

@@ -67,8 +67,10 @@ fn loop_rows(
     requires table { CoversLits t.now (k + 1) nodes.now }
     requires belong { RowsBelong g.old t.now }
     ensures rows { IfOk result (λ rows. (values : List Bool) → IsValuation g.new values →
-        AreRows k (lasso_value k l (told_rows values t.now)) nodes.now (told_rows values rows.items)) }
-    ensures places { IfOk result (λ rows. (i : ℕ) → i < length nodes.now → length (lits_at rows.items i) ≡ k) }
+        AreRows k (lasso_value k l (told_rows values t.now)) nodes.now
+        (told_rows values rows.items)) }
+    ensures places { IfOk result (λ rows. (i : ℕ) → i < length nodes.now →
+        length (lits_at rows.items i) ≡ k) }
     ensures count { IfOk result (λ rows. length rows.items ≡ length nodes.now) }
     ensures belongs { IfOk result (λ rows. RowsBelong g.new rows.items) }
     ensures grows { Grows g.old g.new }
@@ -102,7 +104,8 @@ fn loop_row(
     requires table { RowsBelong g.old t.now }
     ensures places { IfOk result (λ row. length row ≡ k) }
     ensures values { IfOk result (λ row. (values : List Bool) → IsValuation g.new values →
-        IsRow k (lasso_value k l (told_rows values t.now) (told_rows values rows.now.items) node) (values_of values row)) }
+        IsRow k (lasso_value k l (told_rows values t.now) (told_rows values rows.now.items) node)
+        (values_of values row)) }
     ensures belongs { IfOk result (RowBelongs g.new) }
     ensures grows { Grows g.old g.new }
     ensures conjunctions { AddsConjunctions g.old g.new }

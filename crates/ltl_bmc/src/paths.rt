@@ -19,8 +19,8 @@ use gates::{Gates, Lit};
 use ltl_form::{Nnf, NnfNode};
 use std::alloc::{AllocError, Global};
 
-/// A literal that is true where the states 0 to `k` of a path settle that a formula is true at the first
-/// place, whatever comes after them and whatever values the literals of its atoms have.
+/// A literal that is true where the states 0 to `k` of a path settle that a formula is true at
+/// the first place, whatever comes after them and whatever values the literals of its atoms have.
 ///
 /// It makes at most three gates for each node and place.
 ///
@@ -63,8 +63,10 @@ fn path_rows(
     requires table { CoversLits t.now (k + 1) nodes.now }
     requires belong { RowsBelong g.old t.now }
     ensures rows { IfOk result (λ rows. (values : List Bool) → IsValuation g.new values →
-        AreRows (k + 1) (short_value k (told_rows values t.now)) nodes.now (told_rows values rows.items)) }
-    ensures places { IfOk result (λ rows. (i : ℕ) → i < length nodes.now → length (lits_at rows.items i) ≡ k + 1) }
+        AreRows (k + 1) (short_value k (told_rows values t.now)) nodes.now
+        (told_rows values rows.items)) }
+    ensures places { IfOk result (λ rows. (i : ℕ) → i < length nodes.now →
+        length (lits_at rows.items i) ≡ k + 1) }
     ensures count { IfOk result (λ rows. length rows.items ≡ length nodes.now) }
     ensures belongs { IfOk result (λ rows. RowsBelong g.new rows.items) }
     ensures grows { Grows g.old g.new }
@@ -90,14 +92,16 @@ fn path_row(
     requires constant { 0 < length g.old }
     requires last { k < 2 ^ 32 }
     requires parts { PartsWithin (length rows.now.items) node }
-    requires places { (i : ℕ) → i < length rows.now.items → length (lits_at rows.now.items i) ≡ k + 1 }
+    requires places { (i : ℕ) → i < length rows.now.items → length (lits_at rows.now.items i) ≡
+        k + 1 }
     requires belong { RowsBelong g.old rows.now.items }
     requires atom { AtomWithin (length t.now) node }
     requires states { (a : ℕ) → a < length t.now → length (lits_at t.now a) ≡ k + 1 }
     requires table { RowsBelong g.old t.now }
     ensures places { IfOk result (λ row. length row ≡ k + 1) }
     ensures values { IfOk result (λ row. (values : List Bool) → IsValuation g.new values →
-        IsRow (k + 1) (short_value k (told_rows values t.now) (told_rows values rows.now.items) node) (values_of values row)) }
+        IsRow (k + 1) (short_value k (told_rows values t.now)
+        (told_rows values rows.now.items) node) (values_of values row)) }
     ensures belongs { IfOk result (RowBelongs g.new) }
     ensures grows { Grows g.old g.new }
     ensures conjunctions { AddsConjunctions g.old g.new }

@@ -21,7 +21,8 @@ pub(crate) fn turn(
 ) -> Result<LitRow, AllocError>
     requires { places ≤ length row.now }
     ensures places { IfOk result (λ r. length r ≡ places) }
-    ensures literals { (p : ℕ) → p < places → IfOk result (λ r. lit_at r p ≡ signed_lit negated (lit_at row.now p)) }
+    ensures literals { (p : ℕ) → p < places → IfOk result (λ r. lit_at r p ≡
+        signed_lit negated (lit_at row.now p)) }
 {
     let mut all = LitRow::filled(alloc, places, Lit::FALSE)?;
     for p in 0..places {
@@ -34,7 +35,8 @@ pub(crate) fn turn(
 pub(crate) fn shift(alloc: Global, row: &LitRow, last: Lit) -> Result<LitRow, AllocError>
     requires { 0 < length row.now }
     ensures places { IfOk result (λ r. length r ≡ length row.now) }
-    ensures literals { (p : ℕ) → p + 1 < length row.now → IfOk result (λ r. lit_at r p ≡ lit_at row.now (p + 1)) }
+    ensures literals { (p : ℕ) → p + 1 < length row.now → IfOk result (λ r. lit_at r p ≡
+        lit_at row.now (p + 1)) }
     ensures last { IfOk result (λ r. (p : ℕ) → p + 1 ≡ length row.now → lit_at r p ≡ last) }
 {
     let mut all = LitRow::filled(alloc, row.len(), last)?;
@@ -56,8 +58,10 @@ pub(crate) fn join_rows(
     requires first { RowBelongs g.old first.now }
     requires second { RowBelongs g.old second.now }
     ensures places { IfOk result (λ row. length row ≡ length second.now) }
-    ensures values { IfOk result (λ row. (values : List Bool) → IsValuation g.new values → IsRow (length second.now)
-        (λ p. turned dual (turned dual (told (values_of values first.now) p) && turned dual (told (values_of values second.now) p)))
+    ensures values { IfOk result (λ row. (values : List Bool) → IsValuation g.new values →
+        IsRow (length second.now)
+        (λ p. turned dual (turned dual (told (values_of values first.now) p) &&
+        turned dual (told (values_of values second.now) p)))
         (values_of values row)) }
     ensures belongs { IfOk result (RowBelongs g.new) }
     ensures grows { Grows g.old g.new }
@@ -71,9 +75,9 @@ pub(crate) fn join_rows(
     Ok(row)
 }
 
-/// Writes from the last place down to `from` whether `second` holds at this place or a later one, and
-/// `first` at each place before that; or the dual of it. What comes after the last place is given, and
-/// the literal of the first place is the answer. Two gates for each place.
+/// Writes from the last place down to `from` whether `second` holds at this place or a later one,
+/// and `first` at each place before that; or the dual of it. What comes after the last place is
+/// given, and the literal of the first place is the answer. Two gates for each place.
 pub(crate) fn sweep(
     g: &mut Gates,
     row: &mut LitRow,
@@ -91,10 +95,14 @@ pub(crate) fn sweep(
     requires after { Belongs g.old after }
     requires row { RowBelongs g.old row.old }
     ensures places { OnOk result (length row.new ≡ length row.old) }
-    ensures values { IfOk result (λ _. (values : List Bool) → IsValuation g.new values → (p : ℕ) → from ≤ p → p < length row.old →
-        told (values_of values row.new) p ≡ ahead_turned dual (length row.old) (told (values_of values first.now)) (told (values_of values second.now)) (value_of values after) p) }
+    ensures values { IfOk result (λ _. (values : List Bool) → IsValuation g.new values →
+        (p : ℕ) → from ≤ p → p < length row.old →
+        told (values_of values row.new) p ≡ ahead_turned dual (length row.old)
+        (told (values_of values first.now)) (told (values_of values second.now))
+        (value_of values after) p) }
     ensures found { IfOk result (λ l. (values : List Bool) → IsValuation g.new values →
-        value_of values l ≡ ahead_turned dual (length row.old) (told (values_of values first.now)) (told (values_of values second.now)) (value_of values after) from) }
+        value_of values l ≡ ahead_turned dual (length row.old) (told (values_of values first.now))
+        (told (values_of values second.now)) (value_of values after) from) }
     ensures belongs { OnOk result (RowBelongs g.new row.new) }
     ensures found_belongs { IfOk result (Belongs g.new) }
     ensures grows { Grows g.old g.new }
@@ -125,8 +133,10 @@ pub(crate) fn around(
     requires first { RowBelongs g.old first.now }
     requires second { RowBelongs g.old second.now }
     ensures places { IfOk result (λ row. length row ≡ length second.now) }
-    ensures values { IfOk result (λ row. (values : List Bool) → IsValuation g.new values → IsRow (length second.now)
-        (around_turned dual (length second.now) start (told (values_of values first.now)) (told (values_of values second.now)))
+    ensures values { IfOk result (λ row. (values : List Bool) → IsValuation g.new values →
+        IsRow (length second.now)
+        (around_turned dual (length second.now) start (told (values_of values first.now))
+        (told (values_of values second.now)))
         (values_of values row)) }
     ensures belongs { IfOk result (RowBelongs g.new) }
     ensures grows { Grows g.old g.new }
@@ -151,8 +161,10 @@ pub(crate) fn around_whole(
     requires start { start < length second.now }
     requires second { RowBelongs g.old second.now }
     ensures places { IfOk result (λ row. length row ≡ length second.now) }
-    ensures values { IfOk result (λ row. (values : List Bool) → IsValuation g.new values → IsRow (length second.now)
-        (around_turned dual (length second.now) start (λ _. not dual) (told (values_of values second.now)))
+    ensures values { IfOk result (λ row. (values : List Bool) → IsValuation g.new values →
+        IsRow (length second.now)
+        (around_turned dual (length second.now) start (λ _. not dual)
+        (told (values_of values second.now)))
         (values_of values row)) }
     ensures belongs { IfOk result (RowBelongs g.new) }
     ensures grows { Grows g.old g.new }
@@ -174,8 +186,10 @@ pub(crate) fn along(
     requires first { RowBelongs g.old first.now }
     requires second { RowBelongs g.old second.now }
     ensures places { IfOk result (λ row. length row ≡ length second.now) }
-    ensures values { IfOk result (λ row. (values : List Bool) → IsValuation g.new values → IsRow (length second.now)
-        (ahead (length second.now) (told (values_of values first.now)) (told (values_of values second.now)) false)
+    ensures values { IfOk result (λ row. (values : List Bool) → IsValuation g.new values →
+        IsRow (length second.now)
+        (ahead (length second.now) (told (values_of values first.now))
+        (told (values_of values second.now)) false)
         (values_of values row)) }
     ensures belongs { IfOk result (RowBelongs g.new) }
     ensures grows { Grows g.old g.new }
@@ -196,7 +210,8 @@ pub(crate) fn along_whole(
     requires second { RowBelongs g.old second.now }
     ensures places { IfOk result (λ row. length row ≡ length second.now) }
     ensures values { IfOk result (λ row. (values : List Bool) → IsValuation g.new values →
-        IsRow (length second.now) (ahead (length second.now) (λ _. true) (told (values_of values second.now)) false)
+        IsRow (length second.now) (ahead (length second.now) (λ _. true)
+        (told (values_of values second.now)) false)
         (values_of values row)) }
     ensures belongs { IfOk result (RowBelongs g.new) }
     ensures grows { Grows g.old g.new }

@@ -27,7 +27,8 @@ impl LitTable {
     pub fn new(alloc: Global, states: u32, atoms: u64) -> Result<LitTable, AllocError>
         ensures atoms { IfOk result (λ t. length t ≡ atoms) }
         ensures states { IfOk result (λ t. (a : ℕ) → a < atoms → length (lits_at t a) ≡ states) }
-        ensures none { IfOk result (λ t. (a p : ℕ) → a < atoms → p < states → lit_at (lits_at t a) p ≡ never) }
+        ensures none { IfOk result (λ t. (a p : ℕ) → a < atoms → p < states →
+            lit_at (lits_at t a) p ≡ never) }
     {
         let mut rows = Vec::new(alloc);
         for _atom in 0..atoms {

@@ -58,7 +58,8 @@ pub(crate) fn compare(
     requires second_plain { second.plain < length draft.old }
     requires second_negated { second.negated < length draft.old }
     ensures says { (names : ℕ → Tree) (f g : Claim) →
-        SaysTwo names draft.old first.plain first.negated f → SaysTwo names draft.old second.plain second.negated g →
+        SaysTwo names draft.old first.plain first.negated f →
+        SaysTwo names draft.old second.plain second.negated g →
         IfOk result (λ n. Says names draft.new n (normal negated (both op f g))) }
     ensures last { IfOk result (λ n. n + 1 ≡ length draft.new) }
     ensures extends { OnOk result (Extends draft.old draft.new) }
@@ -83,11 +84,13 @@ pub(crate) fn combine(
     requires second_plain { second.plain < length draft.old }
     requires second_negated { second.negated < length draft.old }
     ensures says { (names : ℕ → Tree) (f g : Claim) →
-        SaysTwo names draft.old first.plain first.negated f → SaysTwo names draft.old second.plain second.negated g →
+        SaysTwo names draft.old first.plain first.negated f →
+        SaysTwo names draft.old second.plain second.negated g →
         IfOk result (λ n. Says names draft.new n (normal negated (both op f g))) }
     ensures last { IfOk result (λ n. n + 1 ≡ length draft.new) }
     ensures extends { OnOk result (Extends draft.old draft.new) }
-    ensures count { OnOk result (length draft.new ≡ length draft.old + (if compares op then 3 else 1)) }
+    ensures count { OnOk result (length draft.new ≡ length draft.old +
+        (if compares op then 3 else 1)) }
 {
     if is_comparison(op) {
         return compare(draft, op, negated, first, second);

@@ -24,23 +24,36 @@ pub fn normal_forms_say_the_same<A: Atoms>()
 
 /// What rows tell that follow the nodes of a normal form is its truth, wherever its atoms hold.
 pub fn rows_tell_truth<A: Atoms>()
-    ensures lasso { (names : ℕ → Tree) (nodes : List NnfNode) (table : List (List Bool)) (k l p : ℕ) (b : Bool) (f : Claim) →
+    ensures lasso { (names : ℕ → Tree) (nodes : List NnfNode) (table : List (List Bool))
+        (k l p : ℕ) (b : Bool) (f : Claim) →
         l < k → p < k → Covers table (k + 1) nodes → DecidesAtomsBelow k table names A.holds →
-        Says names nodes (root nodes) f → LassoTells k l table nodes p b → Decides b (TrueAt k l A.holds f p) }
-    ensures path { (names : ℕ → Tree) (nodes : List NnfNode) (table : List (List Bool)) (k p : ℕ) (b : Bool) (f : Claim) →
+        Says names nodes (root nodes) f → LassoTells k l table nodes p b →
+        Decides b (TrueAt k l A.holds f p) }
+    ensures path { (names : ℕ → Tree) (nodes : List NnfNode) (table : List (List Bool)) (k p : ℕ)
+        (b : Bool) (f : Claim) →
         p ≤ k → Covers table (k + 1) nodes → DecidesAtomsBelow (k + 1) table names A.holds →
-        Says names nodes (root nodes) f → ShortTells k table nodes p b → Decides b (Settled A.holds k f true p) }
+        Says names nodes (root nodes) f → ShortTells k table nodes p b →
+        Decides b (Settled A.holds k f true p) }
 {}
 
-/// What rows tell that follow the nodes of a normal form is the truth of the formula, or of its negation.
+/// What rows tell that follow the nodes of a normal form is the truth of the formula, or of its
+/// negation.
 pub fn normal_forms_tell_truth<A: Atoms>()
-    ensures plain { (names : ℕ → Tree) (nodes : List NnfNode) (table : List (List Bool)) (k l p : ℕ) (b : Bool) (f : Claim) →
-        l < k → p < k → Covers table (k + 1) nodes → DecidesAtoms k A.holds → DecidesAtomsBelow k table names A.holds →
-        Says names nodes (root nodes) (normal false f) → LassoTells k l table nodes p b → Decides b (TrueAt k l A.holds f p) }
-    ensures negated { (names : ℕ → Tree) (nodes : List NnfNode) (table : List (List Bool)) (k l p : ℕ) (b : Bool) (f : Claim) →
-        l < k → p < k → Covers table (k + 1) nodes → DecidesAtoms k A.holds → DecidesAtomsBelow k table names A.holds →
-        Says names nodes (root nodes) (normal true f) → LassoTells k l table nodes p b → Decides b (¬ TrueAt k l A.holds f p) }
-    ensures path { (names : ℕ → Tree) (nodes : List NnfNode) (table : List (List Bool)) (k p : ℕ) (negated b : Bool) (f : Claim) →
+    ensures plain { (names : ℕ → Tree) (nodes : List NnfNode) (table : List (List Bool))
+        (k l p : ℕ) (b : Bool) (f : Claim) →
+        l < k → p < k → Covers table (k + 1) nodes → DecidesAtoms k A.holds →
+        DecidesAtomsBelow k table names A.holds →
+        Says names nodes (root nodes) (normal false f) → LassoTells k l table nodes p b →
+        Decides b (TrueAt k l A.holds f p) }
+    ensures negated { (names : ℕ → Tree) (nodes : List NnfNode) (table : List (List Bool))
+        (k l p : ℕ) (b : Bool) (f : Claim) →
+        l < k → p < k → Covers table (k + 1) nodes → DecidesAtoms k A.holds →
+        DecidesAtomsBelow k table names A.holds →
+        Says names nodes (root nodes) (normal true f) → LassoTells k l table nodes p b →
+        Decides b (¬ TrueAt k l A.holds f p) }
+    ensures path { (names : ℕ → Tree) (nodes : List NnfNode) (table : List (List Bool)) (k p : ℕ)
+        (negated b : Bool) (f : Claim) →
         p ≤ k → Covers table (k + 1) nodes → DecidesAtomsBelow (k + 1) table names A.holds →
-        Says names nodes (root nodes) (normal negated f) → ShortTells k table nodes p b → Decides b (Settled A.holds k f (not negated) p) }
+        Says names nodes (root nodes) (normal negated f) → ShortTells k table nodes p b →
+        Decides b (Settled A.holds k f (not negated) p) }
 {}

@@ -1,11 +1,13 @@
 #![tactic(auto)]
-//! Formulas of linear temporal logic in negation normal form, and their truth on lassos and on paths.
+//! Formulas of linear temporal logic in negation normal form, and their truth on lassos and on
+//! paths.
 //!
-//! A formula is a list of nodes, each of which names earlier ones. `to_nnf` makes them of a formula whose
-//! atoms are numbers: negations go down to the atoms, and what stands under an operator that compares
-//! truths is made once as it is and once negated. `lasso_truth` and `short_truth` tell its truth where a table says which atoms hold in which states.
-//! Each node has one row of truth values, made from the rows of its parts from the last place to the
-//! first, around a loop twice.
+//! A formula is a list of nodes, each of which names earlier ones. `to_nnf` makes them of a
+//! formula whose atoms are numbers: negations go down to the atoms, and what stands under an
+//! operator that compares truths is made once as it is and once negated. `lasso_truth` and
+//! `short_truth` tell its truth where a table says which atoms hold in which states. Each node
+//! has one row of truth values, made from the rows of its parts from the last place to the first,
+//! around a loop twice.
 
 mod draft;
 mod joins;

@@ -16,12 +16,14 @@ use std::alloc::{AllocError, Global};
 
 /// The negation normal form of a formula, or with `negated` of its negation.
 ///
-/// Parts of operators that compare truths are made once as they are and once negated, and all others
-/// once; so there are at most two nodes for each atom and operator, and six for one that compares.
-/// It recurs as deep as the formula is.
+/// Parts of operators that compare truths are made once as they are and once negated, and all
+/// others once; so there are at most two nodes for each atom and operator, and six for one that
+/// compares. It recurs as deep as the formula is.
 pub fn to_nnf(alloc: Global, f: &NumberedFormula, negated: bool) -> Result<Nnf, AllocError>
-    ensures says { (names : ℕ → Tree) → IfOk result (λ n. Says names n (root n) (normal negated (claim_of names f.now))) }
-    ensures count { (names : ℕ → Tree) → IfOk result (λ n. length n ≡ nodes_of_one (claim_of names f.now)) }
+    ensures says { (names : ℕ → Tree) → IfOk result (λ n. Says names n (root n) (normal negated
+        (claim_of names f.now))) }
+    ensures count { (names : ℕ → Tree) → IfOk result (λ n. length n ≡
+        nodes_of_one (claim_of names f.now)) }
     ensures linear { (names : ℕ → Tree) → IfOk result (λ n.
         length n ≤ 2 * size (claim_of names f.now) + 4 * comparisons (claim_of names f.now)) }
     ensures plain { (names : ℕ → Tree) → comparisons (claim_of names f.now) ≡ 0 →
@@ -32,12 +34,15 @@ pub fn to_nnf(alloc: Global, f: &NumberedFormula, negated: bool) -> Result<Nnf, 
     Ok(draft.finish())
 }
 
-/// Adds the nodes of a formula, or of its negation, and gives the number of the last, which says it.
+/// Adds the nodes of a formula, or of its negation, and gives the number of the last, which says
+/// it.
 fn put_one(draft: &mut Draft, f: &NumberedFormula, negated: bool) -> Result<u64, AllocError>
-    ensures says { (names : ℕ → Tree) → IfOk result (λ n. Says names draft.new n (normal negated (claim_of names f.now))) }
+    ensures says { (names : ℕ → Tree) → IfOk result (λ n. Says names draft.new n (normal negated
+        (claim_of names f.now))) }
     ensures last { IfOk result (λ n. n + 1 ≡ length draft.new) }
     ensures extends { OnOk result (Extends draft.old draft.new) }
-    ensures count { (names : ℕ → Tree) → OnOk result (length draft.new ≡ length draft.old + nodes_of_one (claim_of names f.now)) }
+    ensures count { (names : ℕ → Tree) → OnOk result (length draft.new ≡
+        length draft.old + nodes_of_one (claim_of names f.now)) }
 {
     match f {
         NumberedFormula::Atom(a) => draft.add(NnfNode::Literal(*a, negated)),
@@ -69,11 +74,13 @@ fn put_one(draft: &mut Draft, f: &NumberedFormula, negated: bool) -> Result<u64,
 
 /// Adds the nodes of a formula and of its negation, and gives the numbers of those that say them.
 fn put_two(draft: &mut Draft, f: &NumberedFormula) -> Result<Sides, AllocError>
-    ensures says { (names : ℕ → Tree) → IfOk result (λ s. SaysTwo names draft.new s.plain s.negated (claim_of names f.now)) }
+    ensures says { (names : ℕ → Tree) → IfOk result
+        (λ s. SaysTwo names draft.new s.plain s.negated (claim_of names f.now)) }
     ensures plain { IfOk result (λ s. s.plain < length draft.new) }
     ensures negated { IfOk result (λ s. s.negated < length draft.new) }
     ensures extends { OnOk result (Extends draft.old draft.new) }
-    ensures count { (names : ℕ → Tree) → OnOk result (length draft.new ≡ length draft.old + nodes_of_two (claim_of names f.now)) }
+    ensures count { (names : ℕ → Tree) → OnOk result (length draft.new ≡
+        length draft.old + nodes_of_two (claim_of names f.now)) }
 {
     match f {
         NumberedFormula::Atom(a) => {
