@@ -80,6 +80,9 @@ fn run<R: rt::Files + Drop, I: Read + Drop, O: Write + Drop, E: Write + Drop, L:
     let status = run_shell(
         alloc, words, &mut input, &mut files, &mut out, &mut err, &mut steps,
     );
+    if status == SINK_FAILED {
+        return Ok(status);
+    }
     // Where Ctrl-D ends the input, the cursor stands behind a prompt.
     if at_terminal && prompts && input.has_ended() && put_all(&mut out, b"\n").is_err() {
         return Ok(SINK_FAILED);
