@@ -10,7 +10,8 @@ use Rattle.smv_meaning.specs.Values.{on_one, on_both}
 use Rattle.smv_values.specs.Answers.{kept}
 
 -- what is made of the values, if there are any to tell
-abbrev pub with_values : Option (List Value) → (List Value → Option (List Value)) → Option (List Value)
+abbrev pub with_values : Option (List Value) → (List Value → Option (List Value))
+    → Option (List Value)
 with_values (Some vs) f = f vs
 with_values None f = None
 
@@ -20,13 +21,15 @@ truth_of (Truth b ∷ []) = Some b
 truth_of vs = None
 
 -- the first where the condition is true, the second where it is false
-abbrev pub fitting_choice : Option Bool → Option (List Value) → Option (List Value) → Option (List Value)
+abbrev pub fitting_choice : Option Bool → Option (List Value) → Option (List Value)
+    → Option (List Value)
 fitting_choice (Some true) first second = first
 fitting_choice (Some false) first second = second
 fitting_choice None first second = Some []
 
 -- the first where the condition is true, else the others
-abbrev pub fitting_first : Option Bool → Option (List Value) → Option (List Value) → Option (List Value)
+abbrev pub fitting_first : Option Bool → Option (List Value) → Option (List Value)
+    → Option (List Value)
 fitting_first (Some true) first others = first
 fitting_first (Some false) first others = others
 fitting_first None first others = others

@@ -65,7 +65,8 @@ pub(crate) fn joined(
 
 /// The list of a vector, if memory was there for it.
 pub(crate) fn many<'a>(all: Result<Vec<Value>, AllocError>) -> Result<ValueList<'a>, EvalFault>
-    ensures { (found : List SmvValue) → IfOk all (λ v. v.items ≡ found) → Answers result (Some found) }
+    ensures { (found : List SmvValue) → IfOk all (λ v. v.items ≡ found) →
+        Answers result (Some found) }
 {
     match all {
         Ok(all) => Ok(ValueList::Many(all)),

@@ -46,7 +46,8 @@ fn eval_first<'a, M: Moment>(
     branches: &'a [FlatBranch],
 ) -> Result<ValueList<'a>, EvalFault>
     ensures { Answers result
-        (first_fitting (M.numbers now.now) (M.numbers later.now) (flat_arms (map flat_arm branches.now))) }
+        (first_fitting (M.numbers now.now) (M.numbers later.now)
+        (flat_arms (map flat_arm branches.now))) }
 {
     for branch in branches {
         match eval(alloc, now, later, &branch.condition) {

@@ -40,7 +40,8 @@ impl Symbol {
     }
 }
 
-/// A name: the number of a variable or of a definition, from 0 in the order of its list, or a symbol.
+/// A name: the number of a variable or of a definition, from 0 in the order of its list, or a
+/// symbol.
 #[derive(Debug, Drop)]
 pub enum FlatName {
     Variable(u32),
