@@ -10,7 +10,8 @@ use smv_tree::{Value, WordVal};
 
 /// The word of these bits.
 pub(crate) fn word(signed: bool, width: u8, bits: u128) -> Outcome
-    ensures { told result ≡ kept (Bits (record { signed = signed; width = width; bits = bits }) ∷ []) }
+    ensures { told result ≡
+        kept (Bits (record { signed = signed; width = width; bits = bits }) ∷ []) }
 {
     if width > 128 {
         return Err(TooLarge);
@@ -35,7 +36,8 @@ pub(crate) fn turned(signed: bool, width: u8, bits: u128) -> Outcome
 /// The word of a number of which this is left modulo two to the 128.
 #[tactic(auto, using(crate::proofs::Wraps::cut_word))]
 pub(crate) fn wrapped(signed: bool, width: u8, residue: u128) -> Outcome
-    ensures { (z : ℤ) → residue ≡ wrap 128 z → told result ≡ kept (Bits (word_of signed width z) ∷ []) }
+    ensures { (z : ℤ) → residue ≡ wrap 128 z →
+        told result ≡ kept (Bits (word_of signed width z) ∷ []) }
 {
     if width > 128 {
         return Err(TooLarge);

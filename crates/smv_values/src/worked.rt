@@ -10,7 +10,8 @@ ghost use Rattle.smv_meaning.specs.Operators.{member, one_value, two_values, wid
 pub fn divisions_truncate()
     ensures quotient { two_values two.Div (Int (pos 7)) (Int (negsuc 1)) ≡ Int (negsuc 2) ∷ [] }
     ensures remainder { two_values two.Mod (Int (negsuc 6)) (Int (pos 5)) ≡ Int (negsuc 1) ∷ [] }
-    ensures least { two_values two.Div (Bits (word_of true 8 (negsuc 127))) (Bits (word_of true 8 (negsuc 0)))
+    ensures least { two_values two.Div
+        (Bits (word_of true 8 (negsuc 127))) (Bits (word_of true 8 (negsuc 0)))
         ≡ Bits (word_of true 8 (negsuc 127)) ∷ [] }
     ensures none { two_values two.Mod (Int (pos 7)) (Int (pos 0)) ≡ [] }
 {}
@@ -23,7 +24,8 @@ pub fn words_wrap()
     ensures down { two_values two.Shr (Bits (word_of true 8 (negsuc 6))) (Int (pos 1))
         ≡ Bits (word_of true 8 (negsuc 3)) ∷ [] }
     ensures far { two_values two.Shl (Bits (word_of false 8 (pos 1))) (Int (pos 9)) ≡ [] }
-    ensures cut { widened true 4 (Bits (word_of true 8 (negsuc 127))) ≡ Bits (word_of true 4 (negsuc 7)) ∷ [] }
+    ensures cut { widened true 4 (Bits (word_of true 8 (negsuc 127)))
+        ≡ Bits (word_of true 4 (negsuc 7)) ∷ [] }
     ensures number { one_value one.ToInt (Bits (word_of true 8 (pos 255))) ≡ Int (negsuc 0) ∷ [] }
 {}
 

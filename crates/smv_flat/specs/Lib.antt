@@ -1,0 +1,5 @@
+pub mod Symbols
+pub mod Views
+pub mod Lists
+pub mod Fitting
+pub mod Counts
