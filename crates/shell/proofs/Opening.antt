@@ -11,7 +11,7 @@ use Rattle.shell_lang.specs.declared.fault.LangFault.{LangFault}
 use Rattle.shell_lang.specs.Fault.{number_of}
 use Rattle.shell_lang.specs.Recall.{recalled}
 use Rattle.shell_world.specs.declared.event.Event.TheVariants as event
-use Rattle.shell_world.specs.declared.event.ShellEvent.TheVariants as shell
+use Rattle.shell_world.specs.declared.shell_event.ShellEvent.TheVariants as shell
 use Rattle.shell_world.specs.declared.refusal.Refusal.TheVariants as refusal
 use Rattle.shell_world.specs.Steps.{TakesLine}
 use Rattle.shell_world.specs.declared.end.End.{End}

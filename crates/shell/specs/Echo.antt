@@ -3,7 +3,7 @@ use Rattle.std.specs.Prelude.{ℕ, Bool, List, [], ◌++◌, Option, Some, None,
 use Rattle.cmd_table.specs.declared.given.Given.{Given}
 use Rattle.cmd_table.specs.Options.{is_given, value_at}
 use Rattle.shell_world.specs.declared.event.Event.TheVariants as event
-use Rattle.shell_world.specs.declared.event.ShellEvent.TheVariants.{Echo}
+use Rattle.shell_world.specs.declared.shell_event.ShellEvent.TheVariants.{Echo}
 use Rattle.shell_world.specs.declared.event.Side.{Side}
 use Rattle.shell_world.specs.declared.event.Side.TheVariants.{Errors, Output}
 use Rattle.shell_world.specs.Processes.{MayLack, Process, Says}

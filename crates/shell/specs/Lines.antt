@@ -16,7 +16,7 @@ use Rattle.shell_model.specs.TraceCommands.{DoesTrace}
 use Rattle.shell_settings.specs.Settings.{DoesSettings}
 use Rattle.shell_world.specs.declared.end.End.TheVariants as ends
 use Rattle.shell_world.specs.declared.event.Event.TheVariants as event
-use Rattle.shell_world.specs.declared.event.ShellEvent.TheVariants as shell
+use Rattle.shell_world.specs.declared.shell_event.ShellEvent.TheVariants as shell
 use Rattle.shell_world.specs.declared.refusal.Refusal.TheVariants as refusal
 use Rattle.shell_world.specs.declared.state.State.{State}
 use Rattle.shell_world.specs.Processes.{Each, Either, Ends, ForSome, Knowing, LacksMemory, MayLack, Process, Refuses, Says, SaysIf, Then, Where}

@@ -16,7 +16,7 @@ use Rattle.shell_world.specs.declared.end.End.{End}
 use Rattle.shell_world.specs.declared.end.End.TheVariants as ends
 use Rattle.shell_world.specs.declared.event.Event.{Event}
 use Rattle.shell_world.specs.declared.event.Event.TheVariants as event
-use Rattle.shell_world.specs.declared.event.ShellEvent.TheVariants as shell
+use Rattle.shell_world.specs.declared.shell_event.ShellEvent.TheVariants as shell
 use Rattle.shell_world.specs.declared.refusal.Refusal.TheVariants as refusal
 use Rattle.shell_world.specs.declared.state.State.{State}
 use Rattle.shell_world.specs.Processes.{Becomes, Chain, Either, Ends, EndsSaying, ForSome, Knowing, LacksMemory, Process, Refuses, SaysIf, Then}

@@ -7,7 +7,7 @@ use Rattle.sat_log_text.specs.Answers.{IsNoMemory}
 use Rattle.sat_log_text.specs.TextFault.{HasFault}
 use Rattle.shell_world.specs.declared.end.End.{End}
 use Rattle.shell_world.specs.declared.event.Event.TheVariants.{Log}
-use Rattle.shell_world.specs.declared.event.LogEvent.{LogEvent}
+use Rattle.shell_world.specs.declared.log_event.LogEvent.{LogEvent}
 use Rattle.shell_world.specs.declared.refusal.Refusal.TheVariants as refusal
 use Rattle.shell_world.specs.Processes.{Refuses, Says}
 use Rattle.shell_world.specs.Scenes.{Moment}

@@ -16,7 +16,7 @@ use Rattle.smv_tree.specs.declared.program.Program.{Program}
 use Rattle.bool_replay.specs.declared.load.ModelFault.{ModelFault}
 use Rattle.bool_replay.specs.declared.verdict.Verdict.{Verdict}
 use Rattle.bool_replay.specs.declared.verdict.Verdict.TheVariants as verdict
-use Rattle.shell_world.specs.declared.event.LogEvent.{LogEvent}
+use Rattle.shell_world.specs.declared.log_event.LogEvent.{LogEvent}
 use Rattle.shell_world.specs.declared.state.State.{State}
 use Rattle.shell_world.specs.Processes.{MayLack}
 use Rattle.shell_world.specs.Steps.{WithFirst}

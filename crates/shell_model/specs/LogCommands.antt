@@ -6,7 +6,7 @@ use Rattle.sat_log_text.specs.declared.fault.LogFault.{LogFault}
 use Rattle.sat_log_text.specs.LogText.{IsTextOf}
 use Rattle.sat_log_text.specs.TextFault.{HasFault}
 use Rattle.shell_world.specs.declared.event.Event.TheVariants.{Log}
-use Rattle.shell_world.specs.declared.event.LogEvent.{LogEvent}
+use Rattle.shell_world.specs.declared.log_event.LogEvent.{LogEvent}
 use Rattle.shell_world.specs.declared.refusal.Refusal.TheVariants as refusal
 use Rattle.shell_world.specs.Processes.{ForSome, MayLack, Process, Refuses, Says, Where}
 use Rattle.shell_world.specs.Steps.{WithFile, WithFirst}

@@ -9,7 +9,7 @@ use Rattle.bool_replay.specs.declared.verdict.Verdict.{Verdict}
 use Rattle.bool_replay.specs.declared.verdict.Verdict.TheVariants as verdict
 use Rattle.bool_replay.specs.Verdicts.{Judges, ModelOf}
 use Rattle.shell_world.specs.declared.event.Event.TheVariants.{Trace}
-use Rattle.shell_world.specs.declared.event.TraceEvent.TheVariants.{Executed, Stops}
+use Rattle.shell_world.specs.declared.trace_event.TraceEvent.TheVariants.{Executed, Stops}
 use Rattle.shell_world.specs.declared.refusal.Refusal.TheVariants as refusal
 use Rattle.shell_world.specs.declared.state.State.{State}
 use Rattle.shell_world.specs.Processes.{Becomes, ForSome, Knowing, MayLack, Process, Refuses, Says, Then, Where}

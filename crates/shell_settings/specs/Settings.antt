@@ -13,7 +13,7 @@ use Rattle.shell_settings.specs.declared.settings.SettingsCommand.TheVariants as
 use Rattle.shell_settings.specs.declared.settings.TheConstants.{ALIAS, HISTORY, SET, UNALIAS, UNSET}
 use Rattle.shell_world.specs.declared.end.End.TheVariants as ends
 use Rattle.shell_world.specs.declared.event.Event.TheVariants as event
-use Rattle.shell_world.specs.declared.event.SettingsEvent.TheVariants as settings
+use Rattle.shell_world.specs.declared.settings_event.SettingsEvent.TheVariants as settings
 use Rattle.shell_world.specs.declared.refusal.Refusal.TheVariants as refusal
 use Rattle.shell_world.specs.declared.state.State.{State}
 use Rattle.shell_world.specs.Processes.{Becomes, Each, Ends, Knowing, MayLack, Process, Refuses, Says}

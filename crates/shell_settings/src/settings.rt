@@ -1,7 +1,7 @@
 ghost use Rattle.std.specs.Prelude.{◌≡◌, IfOk, None};
 ghost use Rattle.shell_settings.specs.Settings.{Aliases, AliasesWith, DoesSettings, DropsAlias, ListsAlias, ListsAliases, ListsValues, PutsAlias, Sets, SetsTo, SetsWith, ShowsAlias, ShowsNamed, ShowsValue, TakesBack, Unaliases, Unsets};
 ghost use Rattle.shell_world.specs.declared.event.Event.TheVariants as event;
-ghost use Rattle.shell_world.specs.declared.event.SettingsEvent.TheVariants as settings;
+ghost use Rattle.shell_world.specs.declared.settings_event.SettingsEvent.TheVariants as settings;
 ghost use Rattle.shell_world.specs.Texts.{joined};
 ghost use Rattle.shell_world.specs.Steps.{WithFirst};
 ghost use Rattle.shell_world.specs.Written.{Does};

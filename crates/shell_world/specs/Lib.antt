@@ -7,3 +7,7 @@ pub mod Steps
 pub mod Phases
 pub mod Rows
 pub mod Keeping
+pub mod ShellTexts
+pub mod SettingsTexts
+pub mod LogTexts
+pub mod TraceTexts

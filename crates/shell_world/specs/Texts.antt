@@ -1,26 +1,20 @@
--- What is written of each event, and on which side.
+-- What is written of each event, and on which side, one case a topic; and the texts of refusals.
 use Rattle.std.specs.Prelude.{ℕ, List, [], ◌∷◌, ◌++◌, codes, decimal, flat_map}
 use Rattle.outside.specs.Lines.{fault_number, fault_text}
 use Rattle.cmd_table.specs.Fault as options
 use Rattle.shell_lang.specs.Fault as language
-use Rattle.smv_tree.specs.declared.place.Place.{Place}
 use Rattle.smv_grammar.specs.Faults as models
 use Rattle.sat_log_text.specs.FaultText as logs
-use Rattle.bool_replay.specs.declared.verdict.Cause.{Cause}
-use Rattle.bool_replay.specs.declared.verdict.Cause.TheVariants.{Init, Trans}
-use Rattle.shell_world.specs.declared.event.LogEvent.{LogEvent}
-use Rattle.shell_world.specs.declared.event.TraceEvent.{TraceEvent}
-use Rattle.shell_world.specs.declared.event.TraceEvent.TheVariants.{Executed, Stops}
 use Rattle.shell_world.specs.declared.event.Event.{Event}
 use Rattle.shell_world.specs.declared.event.Event.TheVariants as event
-use Rattle.shell_world.specs.declared.event.SettingsEvent.{SettingsEvent}
-use Rattle.shell_world.specs.declared.event.SettingsEvent.TheVariants.{Entry, Past}
-use Rattle.shell_world.specs.declared.event.ShellEvent.{ShellEvent}
-use Rattle.shell_world.specs.declared.event.ShellEvent.TheVariants.{Echo, Help, Line, Prompt}
 use Rattle.shell_world.specs.declared.event.Side.{Side}
 use Rattle.shell_world.specs.declared.event.Side.TheVariants.{Output, Errors}
 use Rattle.shell_world.specs.declared.refusal.Refusal.{Refusal}
 use Rattle.shell_world.specs.declared.refusal.Refusal.TheVariants as refusal
+use Rattle.shell_world.specs.LogTexts.{log_text}
+use Rattle.shell_world.specs.SettingsTexts.{settings_text}
+use Rattle.shell_world.specs.ShellTexts.{shell_side, shell_text}
+use Rattle.shell_world.specs.TraceTexts.{trace_text}
 
 -- words with a blank between any two
 abbrev pub joined : List (List ℕ) → List ℕ
@@ -78,55 +72,6 @@ abbrev pub refusal_text : Refusal → List ℕ
 refusal_text r =
     codes "error " ++ decimal (refusal_number r) ++ codes ": " ++ refusal_said r ++ codes "\n"
 
-abbrev pub shell_text : ShellEvent → List ℕ
-shell_text (Echo side text) = text
-shell_text (Help text) = text ++ codes "\n"
-shell_text Prompt = codes "NuSMV > "
-shell_text (Line line) = line ++ codes "\n"
-
--- a remembered line, after its number
-abbrev pub past_text : ℕ → List ℕ → List ℕ
-past_text number line = decimal number ++ (codes "\t" ++ (line ++ codes "\n"))
-
-abbrev pub settings_text : SettingsEvent → List ℕ
-settings_text (Entry name value) = name ++ (codes " = " ++ (value ++ codes "\n"))
-settings_text (Past number line) = past_text number line
-
--- a number that ends its line
-abbrev pub ended_text : ℕ → List ℕ
-ended_text number = decimal number ++ codes "\n"
-
--- a log is accepted
-abbrev pub accepted_text : ℕ → ℕ → List ℕ
-accepted_text given others =
-    (codes "-- the log is accepted, originals: " ++ decimal given ++ codes ", lines: ")
-    ++ ended_text others
-
-abbrev pub log_text : LogEvent → List ℕ
-log_text e = accepted_text e.originals e.others
-
--- a word, and a place behind it
-abbrev pub at_text : List ℕ → Place → List ℕ
-at_text word place = (word ++ decimal place.line ++ codes ":") ++ decimal place.column
-
--- which constraint a replay stops at, by its section word and place
-abbrev pub cause_text : Cause → List ℕ
-cause_text (Init place) = at_text (codes "INIT at ") place
-cause_text (Trans place) = at_text (codes "TRANS at ") place
-
-abbrev pub cause_line : Cause → List ℕ
-cause_line cause = cause_text cause ++ codes "\n"
-
--- where a trace stops
-abbrev pub stop_text : ℕ → Cause → List ℕ
-stop_text number cause =
-    (codes "-- the trace stops at state " ++ decimal number ++ codes ": ") ++ cause_line cause
-
-abbrev pub trace_text : TraceEvent → List ℕ
-trace_text (Executed count) =
-    codes "-- the trace is executed, states: " ++ decimal count ++ codes "\n"
-trace_text (Stops number cause) = stop_text number cause
-
 -- what is written of an event
 abbrev pub text_of : Event → List ℕ
 text_of (event.Shell e) = shell_text e
@@ -135,12 +80,6 @@ text_of (event.Log e) = log_text e
 text_of (event.Trace e) = trace_text e
 text_of (event.Refused r) = refusal_text r
 text_of event.Usage = codes "usage: nusat [-int] [-source file] [model.smv] | nusat -gen n\n"
-
-abbrev pub shell_side : ShellEvent → Side
-shell_side (Echo side text) = side
-shell_side (Help text) = Output
-shell_side Prompt = Output
-shell_side (Line line) = Output
 
 -- the side that it is written on
 abbrev pub side_of : Event → Side

@@ -11,22 +11,30 @@
 
 mod end;
 mod event;
+mod log_event;
 mod phase;
 mod reading;
 mod refusal;
 mod row;
+mod settings_event;
+mod shell_event;
 mod state;
 mod telling;
+mod trace_event;
 mod words;
 mod world;
 
 pub use end::{End, Next};
-pub use event::{Event, LogEvent, SettingsEvent, ShellEvent, Side, TraceEvent};
+pub use event::{Event, Side};
+pub use log_event::LogEvent;
 pub use phase::Phase;
 pub use reading::{read_file, read_line, refuse_file, store_file, write_file};
 pub use refusal::Refusal;
 pub use row::{Listed, Row, find_word, put_words, read_row};
+pub use settings_event::SettingsEvent;
+pub use shell_event::ShellEvent;
 pub use state::State;
 pub use telling::{end_saying, lack_memory, refuse, say, say_if};
+pub use trace_event::TraceEvent;
 pub use words::{copy_of, join};
 pub use world::{Outside, World};

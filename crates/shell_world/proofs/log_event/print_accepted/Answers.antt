@@ -1,9 +1,9 @@
 use Rattle.outside.proofs.WriteLemmas.{writes_returned, writes_stopped, writes_then}
-use Rattle.shell_world.proofs.event.print_stop.Goals as goal
+use Rattle.shell_world.proofs.log_event.print_accepted.Goals as goal
 
 pub returns-in_err-put_numbered : goal.returns-in_err-put_numbered
 returns-in_err-put_numbered g c =
     writes_returned _ c.from_residual.result c.from_residual.ensures.1 (writes_stopped _ c.in_err-put_numbered.ensures)
 
 pub returns : goal.returns
-returns g c = writes_then c.in_ok-put_numbered.ensures c.print_cause_line.ensures
+returns g c = writes_then c.in_ok-put_numbered.ensures c.print_ended.ensures

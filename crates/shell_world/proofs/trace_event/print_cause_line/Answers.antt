@@ -1,5 +1,5 @@
 use Rattle.outside.proofs.WriteLemmas.{writes_returned, writes_stopped, writes_then}
-use Rattle.shell_world.proofs.event.print_cause_line.Goals as goal
+use Rattle.shell_world.proofs.trace_event.print_cause_line.Goals as goal
 
 pub returns-in_err-print_cause : goal.returns-in_err-print_cause
 returns-in_err-print_cause g c =
