@@ -1,3 +1,5 @@
 pub mod Spans
 pub mod Loops
 pub mod Held
+pub mod Slots
+pub mod Rows

@@ -3,3 +3,10 @@ pub mod Views
 pub mod Lists
 pub mod Fitting
 pub mod Counts
+pub mod FlatModels
+pub mod Slots
+pub mod Spots
+pub mod Moments
+pub mod Tables
+pub mod Answers
+pub mod Given

@@ -8,7 +8,8 @@ use crate::{EvalFault, ValueList};
 use smv_tree::Value;
 use std::alloc::{AllocError, Global};
 
-fn copy_of(alloc: Global, v: &Value) -> Result<Value, AllocError>
+/// Another value that is the same.
+pub(crate) fn copy_of(alloc: Global, v: &Value) -> Result<Value, AllocError>
     ensures { IfOk result (λ w. w ≡ v.now) }
 {
     match v {
@@ -36,17 +37,22 @@ pub(crate) fn push_copies(
     Ok(())
 }
 
+/// Copies of these values.
+pub(crate) fn copied(alloc: Global, values: &[Value]) -> Result<Vec<Value>, AllocError>
+    ensures { IfOk result (λ v. v.items ≡ values.now) }
+{
+    let mut all = Vec::new(alloc);
+    push_copies(alloc, &mut all, values)?;
+    Ok(all)
+}
+
 /// The values of a list as a vector of their own.
-fn into_vec(alloc: Global, list: ValueList<'_>) -> Result<Vec<Value>, AllocError>
+pub(crate) fn into_vec(alloc: Global, list: ValueList<'_>) -> Result<Vec<Value>, AllocError>
     ensures { IfOk result (λ v. v.items ≡ values_of list.entry) }
 {
     match list {
         ValueList::Many(all) => Ok(all),
-        other => {
-            let mut all = Vec::new(alloc);
-            push_copies(alloc, &mut all, other.as_slice())?;
-            Ok(all)
-        }
+        other => copied(alloc, other.as_slice()),
     }
 }
 

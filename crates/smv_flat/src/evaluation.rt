@@ -26,7 +26,7 @@ fn eval_all<'a, M: Moment>(
 {
     let mut all = Vec::new(alloc);
     for e in es {
-        match eval(alloc, now, later, e) {
+        match eval_at(alloc, now, later, e) {
             Ok(list) => match push_copies(alloc, &mut all, list.as_slice()) {
                 Ok(()) => {}
                 Err(fault) => return Err(EvalFault::NoMemory(fault)),
@@ -50,10 +50,10 @@ fn eval_first<'a, M: Moment>(
         (flat_arms (map flat_arm branches.now))) }
 {
     for branch in branches {
-        match eval(alloc, now, later, &branch.condition) {
+        match eval_at(alloc, now, later, &branch.condition) {
             Ok(list) => {
                 if truth_of(list.as_slice()) == Some(true) {
-                    return eval(alloc, now, later, &branch.value);
+                    return eval_at(alloc, now, later, &branch.value);
                 }
             }
             Err(fault) => return Err(fault),
@@ -75,7 +75,7 @@ fn eval_count<'a, M: Moment>(
 {
     let mut count = Some(0);
     for e in es {
-        match eval(alloc, now, later, e) {
+        match eval_at(alloc, now, later, e) {
             Ok(list) => count = counted(count, list.as_slice()),
             Err(fault) => return Err(fault),
         }
@@ -90,7 +90,7 @@ fn eval_count<'a, M: Moment>(
 /// `TooLarge`, exactly where the program cannot hold the value of an operator that is looked at;
 /// `NoMemory`, where memory was refused.
 #[cycle(eval)]
-pub fn eval<'a, M: Moment>(
+pub fn eval_at<'a, M: Moment>(
     alloc: Global,
     now: &'a M,
     later: &'a M,
@@ -107,31 +107,31 @@ pub fn eval<'a, M: Moment>(
         FlatExpr::Span(_, low, high) => many(span(alloc, *low, *high)),
         FlatExpr::Set(_, es) => eval_all(alloc, now, later, es.as_slice()),
         FlatExpr::Case(_, branches) => eval_first(alloc, now, later, branches.as_slice()),
-        FlatExpr::If(_, c, a, b) => match eval(alloc, now, later, c) {
+        FlatExpr::If(_, c, a, b) => match eval_at(alloc, now, later, c) {
             Ok(list) => match truth_of(list.as_slice()) {
-                Some(true) => eval(alloc, now, later, a),
-                Some(false) => eval(alloc, now, later, b),
+                Some(true) => eval_at(alloc, now, later, a),
+                Some(false) => eval_at(alloc, now, later, b),
                 None => Ok(ValueList::None),
             },
             Err(fault) => Err(fault),
         },
-        FlatExpr::One(_, o, a) => match eval(alloc, now, later, a) {
+        FlatExpr::One(_, o, a) => match eval_at(alloc, now, later, a) {
             Ok(list) => answered(one_of(*o, list.as_slice())),
             Err(fault) => Err(fault),
         },
-        FlatExpr::Two(_, o, a, b) => match eval(alloc, now, later, a) {
-            Ok(left) => match eval(alloc, now, later, b) {
+        FlatExpr::Two(_, o, a, b) => match eval_at(alloc, now, later, a) {
+            Ok(left) => match eval_at(alloc, now, later, b) {
                 Ok(right) => both(alloc, *o, left, right),
                 Err(fault) => Err(fault),
             },
             Err(fault) => Err(fault),
         },
-        FlatExpr::Select(_, a, high, low) => match eval(alloc, now, later, a) {
+        FlatExpr::Select(_, a, high, low) => match eval_at(alloc, now, later, a) {
             Ok(list) => answered(selected_of(*high, *low, list.as_slice())),
             Err(fault) => Err(fault),
         },
-        FlatExpr::Next(_, a) => eval(alloc, later, later, a),
-        FlatExpr::Widen(_, resize, a, n) => match eval(alloc, now, later, a) {
+        FlatExpr::Next(_, a) => eval_at(alloc, later, later, a),
+        FlatExpr::Widen(_, resize, a, n) => match eval_at(alloc, now, later, a) {
             Ok(list) => answered(widened_of(*resize, *n, list.as_slice())),
             Err(fault) => Err(fault),
         },
