@@ -12,14 +12,14 @@ use Rattle.smv_meaning.specs.FlatTrees.{Flat, truth, number, word, name, span, s
 use Rattle.smv_values.specs.Answers.{is_held, kept}
 use Rattle.smv_flat.specs.Fitting.{with_values, truth_of, fitting_choice, fitting_first, fitting_both, fitting_count, ahead, fitting_eval, all_fitting, each_fitting, first_fitting}
 
-abbrev value_or : {A : Type 0} → A → Option A → A
+abbrev pub value_or : {A : Type 0} → A → Option A → A
 value_or d (Some a) = a
 value_or d None = d
 
-some_is : {A : Type 0} (a b : A) → Some a ≡ Some b → b ≡ a
+pub some_is : {A : Type 0} (a b : A) → Some a ≡ Some b → b ≡ a
 some_is a b e = sym (ap (value_or a) e)
 
-never : {A : Type 0} (b : A) → None ≡ Some b → ⊥
+pub never : {A : Type 0} (b : A) → None ≡ Some b → ⊥
 never b e = grind (arith, e)
 
 by_test : (b : Bool) (vs ws : List Value) → (if b then Some vs else None) ≡ Some ws → ws ≡ vs

@@ -3,3 +3,5 @@ pub mod Loops
 pub mod Held
 pub mod Slots
 pub mod Rows
+pub mod Moments
+pub mod SlotPaths

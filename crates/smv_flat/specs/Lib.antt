@@ -10,3 +10,5 @@ pub mod Moments
 pub mod Tables
 pub mod Answers
 pub mod Given
+pub mod StatedViews
+pub mod RunViews

@@ -1,10 +1,9 @@
 ghost use Rattle.std.specs.Prelude.{◌≡◌, ◌++◌, ◌∷◌, [], map, option_map, OnOk};
-ghost use Rattle.smv_meaning.specs.FlatTrees.{Numbers};
 ghost use Rattle.smv_flat.specs.Views.{flat_tree};
 ghost use Rattle.smv_flat.specs.Fitting.{fitting_eval};
 ghost use Rattle.smv_flat.specs.FlatModels.{model_of};
 ghost use Rattle.smv_flat.specs.Slots.{slots_of};
-ghost use Rattle.smv_flat.specs.Moments.{one_more, fitting_defs, all_defs};
+ghost use Rattle.smv_flat.specs.Moments.{numbers_with, one_more, fitting_defs, all_defs};
 ghost use Rattle.smv_flat.specs.Tables.{row_values, numbers_of};
 ghost use Rattle.smv_flat.specs.Answers.{Gives};
 ghost use Rattle.smv_flat.specs.Given.{given};
@@ -43,10 +42,8 @@ fn valued(
     rows: &[Row],
     body: &FlatExpr,
 ) -> Result<Row, EvalFault>
-    ensures { let now : Numbers = record {
-      slots = slots_of (model_of flat.now).vars state.now input.now;
-      defs = map row_values rows.now;
-    } in
+    ensures { let now = numbers_with (slots_of (model_of flat.now).vars state.now input.now)
+        (map row_values rows.now) in
         Gives row_values result (fitting_eval now now (flat_tree body.now)) }
 {
     let moment = FlatMoment {
@@ -168,11 +165,8 @@ impl DefinitionTable {
         state: &'a State,
         input: Option<&'a Input>,
     ) -> FlatMoment<'a>
-        ensures { numbers_of result ≡ record {
-          slots = slots_of (model_of flat.now).vars state.now
-              (given (option_map (λ i. i.now) input.entry));
-          defs = self.now;
-        } }
+        ensures { numbers_of result ≡ numbers_with (slots_of (model_of flat.now).vars state.now
+            (given (option_map (λ i. i.now) input.entry))) self.now }
     {
         self.moment_of(flat, state.as_slice(), given_input(input))
     }
@@ -184,10 +178,8 @@ impl DefinitionTable {
         state: &'a [Value],
         input: &'a [Value],
     ) -> FlatMoment<'a>
-        ensures { numbers_of result ≡ record {
-          slots = slots_of (model_of flat.now).vars state.now input.now;
-          defs = self.now;
-        } }
+        ensures { numbers_of result
+            ≡ numbers_with (slots_of (model_of flat.now).vars state.now input.now) self.now }
     {
         FlatMoment {
             flat,
