@@ -116,7 +116,7 @@ module _ (program : List Body) where
     declared : (o : List ℕ) → Contains ms o → Contains (module_names program) o
     comes : (o : List ℕ) → Contains ms o → ComesTo o m
 
-  reach_on : (m n : List ℕ) → IsReached program m → Instantiates program m n → IsReached program n
+  pub reach_on : (m n : List ℕ) → IsReached program m → Instantiates program m n → IsReached program n
   reach_on m n (inl e) i = inr ([], subst (λ x. Instantiates program x n) e i)
   reach_on m n (inr (xs, w)) i = inr (xs ++ m ∷ [], walk_on (Instantiates program) (codes "main") xs m n w i)
 
@@ -144,8 +144,12 @@ module _ (program : List Body) where
         λ n path up actuals h. undeclared m (λ d. let f : length (m ∷ ms) ≤ length program = few (m ∷ ms) (with_once m ms reached v) (with_declared m ms v d) in omega arith) n path up actuals
     deep_enough (suc k) m ms reached v l = enough_next k m (λ n i. deep_enough k n (m ∷ ms) (reach_on m n reached i) (visit m n ms reached v i) (omega arith))
 
-    pub all_entries : (n : ℕ) → length program ≤ n → entries_below n program [] [] (codes "main") [] ≡ entries program
+    -- for a module that is reached, as many levels are enough as there are modules
+    pub entries_enough : (m : List ℕ) → IsReached program m → Enough (length program) m
     unfolding IsDistinct
-    all_entries n l =
-        let start : Visited (codes "main") [] = record { once = tt; declared = λ o c. absurd (contains_none o c); comes = λ o c. absurd (contains_none o c) } in
-        deep_enough (length program) (codes "main") [] (inl refl) start (omega arith) n [] [] [] l
+    entries_enough m reached =
+        let start : Visited m [] = record { once = tt; declared = λ o c. absurd (contains_none o c); comes = λ o c. absurd (contains_none o c) } in
+        deep_enough (length program) m [] reached start (omega arith)
+
+    pub all_entries : (n : ℕ) → length program ≤ n → entries_below n program [] [] (codes "main") [] ≡ entries program
+    all_entries n l = entries_enough (codes "main") (inl refl) n [] [] [] l

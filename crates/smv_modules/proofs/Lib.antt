@@ -2,3 +2,5 @@ pub mod Doubles
 pub mod Agains
 pub mod Reached
 pub mod Counting
+pub mod Listing
+pub mod Rows

@@ -4,7 +4,7 @@ use Rattle.smv_tree.specs.declared.place.Place.{Place}
 use Rattle.smv_tree.specs.declared.program.Kind.TheVariants as kind
 use Rattle.smv_tree.specs.declared.value.Ty.TheVariants as type
 use Rattle.smv_tree.specs.declared.value.Value.TheVariants.{Sym}
-use Rattle.smv_tree.specs.Models.{Body, Part, Formal, variable, plain}
+use Rattle.smv_tree.specs.Models.{Body, variable, plain}
 
 abbrev pub at_column : ℕ → Place
 at_column n = record { line = 1; column = n }

@@ -4,3 +4,7 @@ pub mod Scopes
 pub mod References
 pub mod Counts
 pub mod Example
+pub mod Limits
+pub mod Told
+pub mod Nodes
+pub mod Listed

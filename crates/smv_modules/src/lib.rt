@@ -2,15 +2,19 @@
 //! The modules of a model before any expression is typed: whether each name is declared once, and
 //! whether the modules that `main` reaches refer to modules that are there.
 //!
-//! Each pass has the list of its faults in `specs`, and answers the first of them.
+//! Each pass has the list of its faults in `specs`, and answers the first of them. Where all is right, the
+//! instances of the model are listed.
 
 mod example;
+mod instances;
 mod laws;
 mod names;
+mod nodes;
 mod references;
 mod scope;
 
 pub use example::names_are_declared_twice;
+pub use instances::{Instance, Instances};
 pub use laws::doubled_names_are_declared_again;
 pub use names::first_name_fault;
 pub use references::first_reference_fault;

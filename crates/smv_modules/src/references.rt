@@ -17,7 +17,7 @@ use std::alloc::{AllocError, Global};
 use type_fault::{TypeFault, earlier};
 
 /// The module of a number.
-fn module_at(modules: &Modules, number: usize) -> &Module
+pub(crate) fn module_at(modules: &Modules, number: usize) -> &Module
     requires { number < length modules.now.items }
     ensures { slice_get modules.now.items number ≡ Some result.now }
 {
