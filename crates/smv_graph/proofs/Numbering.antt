@@ -11,13 +11,13 @@ use Rattle.std.proofs.lemmas.Slice.Eq.{bytes_eq-Decides}
 use Rattle.std.proofs.lemmas.Bool.Decides.{same_from_decides}
 
 -- a look-up by what is made of each key
-pub lookup-map : {A : Type 0} (f : A → List ℕ) (test : List ℕ → Bool) (es : List (A × ℕ)) → lookup test (map (λ e. (f e.0, e.1)) es) ≡ lookup (λ k. test (f k)) es
+pub lookup-map : {A V : Type 0} (f : A → List ℕ) (test : List ℕ → Bool) (es : List (A × V)) → lookup test (map (λ e. (f e.0, e.1)) es) ≡ lookup (λ k. test (f k)) es
 lookup-map f test [] = refl
 lookup-map f test (e ∷ es) = ap (λ r. cond (test (f e.0)) (Some e.1) r) (lookup-map f test es)
 
-pub lookup-append : {K : Type 0} (test : K → Bool) (xs ys : List (K × ℕ)) → lookup test (xs ++ ys) ≡ option_or (lookup test xs) (lookup test ys)
+pub lookup-append : {K V : Type 0} (test : K → Bool) (xs ys : List (K × V)) → lookup test (xs ++ ys) ≡ option_or (lookup test xs) (lookup test ys)
 lookup-append test [] ys = refl
-lookup-append {K} test (x ∷ xs) ys = by_test (test x.0) (lookup-append test xs ys)
+lookup-append {K} {V} test (x ∷ xs) ys = by_test (test x.0) (lookup-append test xs ys)
   where
     by_test : (b : Bool) → lookup test (xs ++ ys) ≡ option_or (lookup test xs) (lookup test ys) → cond b (Some x.1) (lookup test (xs ++ ys)) ≡ option_or (cond b (Some x.1) (lookup test xs)) (lookup test ys)
     by_test true e = refl
@@ -47,7 +47,7 @@ position-push p xs x =
 pub bytes_eq-sym : (a b : List ℕ) → bytes_eq a b ≡ bytes_eq b a
 bytes_eq-sym a b = same_from_decides (bytes_eq a b) (bytes_eq b a) (bytes_eq-Decides a b) (λ e. sym ((bytes_eq-Decides b a).0 e), λ e. (bytes_eq-Decides b a).1 (sym e))
 
-option_or-none : (o : Option ℕ) → option_or o None ≡ o
+pub option_or-none : {V : Type 0} (o : Option V) → option_or o None ≡ o
 option_or-none None = refl
 option_or-none (Some k) = refl
 
@@ -77,13 +77,13 @@ numbered_more {X} name es xs x h m = by_there (lookup (bytes_eq (name x)) es) re
     by_there None e = lookup-append (bytes_eq m) es ((name x, length xs) ∷ []) ∙ (ap (option_or (lookup (bytes_eq m) es)) same ∙ sym more)
     by_there (Some n) e = sym (kept n e (bytes_eq (name x) m) refl) ∙ sym more
 
-module _ {A : Type 0} (f : A → List ℕ) (es : List (A × ℕ)) where
+module _ {A V : Type 0} (f : A → List ℕ) (es : List (A × V)) where
   -- a name without a number is no key
-  pub absent_key : (k : A) (name : List ℕ) (numbers : List (List ℕ × ℕ)) → map (λ e. (f e.0, e.1)) es ≡ numbers → f k ≡ name → lookup (bytes_eq name) numbers ≡ None → lookup (λ x. bytes_eq (f k) (f x)) es ≡ None
+  pub absent_key : (k : A) (name : List ℕ) (numbers : List (List ℕ × V)) → map (λ e. (f e.0, e.1)) es ≡ numbers → f k ≡ name → lookup (bytes_eq name) numbers ≡ None → lookup (λ x. bytes_eq (f k) (f x)) es ≡ None
   absent_key k name numbers view same absent =
       ap (λ n. lookup (λ x. bytes_eq n (f x)) es) same ∙ (sym (lookup-map f (bytes_eq name) es) ∙ (ap (lookup (bytes_eq name)) view ∙ absent))
 
-  pub inserted : (new : List (A × ℕ)) (k : A) (number : ℕ) (name : List ℕ) (numbers : List (List ℕ × ℕ)) → map (λ e. (f e.0, e.1)) es ≡ numbers → f k ≡ name → lookup (bytes_eq name) numbers ≡ None → new ≡ es ++ (k, number) ∷ []
+  pub inserted : (new : List (A × V)) (k : A) (number : V) (name : List ℕ) (numbers : List (List ℕ × V)) → map (λ e. (f e.0, e.1)) es ≡ numbers → f k ≡ name → lookup (bytes_eq name) numbers ≡ None → new ≡ es ++ (k, number) ∷ []
       → map (λ e. (f e.0, e.1)) new ≡ (if is_some (lookup (bytes_eq name) numbers) then numbers else numbers ++ (name, number) ∷ [])
   inserted new k number name numbers view same absent put =
       ap (map (λ e. (f e.0, e.1))) put ∙ (map-append (λ e. (f e.0, e.1)) es ((k, number) ∷ [])

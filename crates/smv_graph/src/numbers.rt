@@ -24,7 +24,8 @@ impl Model for Numbers {
 }
 
 impl Numbers {
-    fn new(alloc: Global) -> Numbers
+    /// No names.
+    pub fn new(alloc: Global) -> Numbers
         ensures { result ≡ [] }
     {
         Numbers {
@@ -40,7 +41,7 @@ impl Numbers {
     }
 
     /// Gives a name a number, unless it has one.
-    fn insert(&mut self, alloc: Global, name: &[u8], number: usize) -> Result<(), AllocError>
+    pub fn insert(&mut self, alloc: Global, name: &[u8], number: usize) -> Result<(), AllocError>
         ensures { OnOk result (self.new ≡ (if is_some (lookup (bytes_eq name.now) self.old)
             then self.old else self.old ++ (name.now, number) ∷ [])) }
     {

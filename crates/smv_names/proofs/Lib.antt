@@ -1,0 +1,4 @@
+pub mod Entering
+pub mod Gaining
+pub mod Rows
+pub mod Members

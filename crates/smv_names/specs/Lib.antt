@@ -1,0 +1,5 @@
+pub mod Tables
+pub mod Entries
+pub mod SymbolSets
+pub mod Branches
+pub mod Members

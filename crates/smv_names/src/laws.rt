@@ -1,0 +1,15 @@
+//! What the tables say of the meaning.
+ghost use Rattle.std.specs.Prelude.{ℕ, List};
+ghost use Rattle.std.specs.Map.{lookup};
+ghost use Rattle.std.specs.Str.{bytes_eq};
+ghost use Rattle.smv_tree.specs.Models.{Part};
+ghost use Rattle.smv_meaning.specs.Names.{Target, member_of};
+ghost use Rattle.smv_names.specs.Tables.{part_entries};
+ghost use Rattle.smv_names.specs.Members.{Tells};
+
+/// What the table of a module's items tells of a name is what the declarations make of it.
+pub fn tables_tell_members()
+    ensures { (path up : List (List ℕ)) (m : List ℕ) (parts : List Part) (other : Target) →
+        Tells path up m parts other (lookup (bytes_eq m) (part_entries 0 0 parts))
+        (member_of path up m parts other) }
+{}
