@@ -26,7 +26,7 @@ originals_learned before (c ∷ cs) = (original_learned before c, originals_lear
 
 -- some originals more, or none
 pub rest_added : {A E : Type 0} (r : Result A E) (old new : Searched) (cs : List (List Literal))
-    → OnOk r (new ≡ record { variables = old.variables; log = old.log ++ map original cs; entries = old.entries }) → OnErr r (new ≡ old) → IsAtRest old → IsAtRest new
+    → OnOk r (new ≡ record { variables = old.variables; log = old.log ++ map original cs; entries = old.entries; attached = old.attached; looked = old.looked }) → OnErr r (new ≡ old) → IsAtRest old → IsAtRest new
 rest_added (Ok x) old new cs ok err h =
     subst IsAtRest (sym ok) (record { level = h.level; learned = learned_append [] old.log (map original cs) h.learned (originals_learned old.log cs) })
 rest_added (Err x) old new cs ok err h = subst IsAtRest (sym err) h

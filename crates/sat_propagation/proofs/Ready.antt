@@ -197,6 +197,14 @@ module _ (old new : Propagated) (w id : ℕ) (serves : Serves old new w id) wher
       }
 
 -- The trail is looked at again.
+
+pub none_looked : (entries : List Entry) (k : Literal) → Among (literals (bottom 0 entries)) k → ⊥
+none_looked entries k m = from entries (subst (λ (n : ℕ). Among (literals (drop n entries)) k) (omega arith) m)
+  where
+    from : (es : List Entry) → Among (literals (drop (length es) es)) k → ⊥
+    from [] n = n
+    from (e ∷ es) n = from es n
+
 pub ready_restarted : (log : List LogLine) (t : Trailed) (p : Propagated) → IsReady log t p → IsReady log t (record { watched = p.watched; ids = p.ids; looked = 0 })
 ready_restarted log t p h =
     record {
@@ -205,13 +213,6 @@ ready_restarted log t p h =
       within = omega arith;
       rule = (λ w u a b ha hb ne. record { earlier = (h.rule w u a b ha hb ne).earlier; now = (λ m. absurd (none_looked t.entries (negated a) m)) });
     }
-  where
-    none_looked : (entries : List Entry) (k : Literal) → Among (literals (bottom 0 entries)) k → ⊥
-    none_looked entries k m = from entries (subst (λ (n : ℕ). Among (literals (drop n entries)) k) (omega arith) m)
-      where
-        from : (es : List Entry) → Among (literals (drop (length es) es)) k → ⊥
-        from [] n = n
-        from (e ∷ es) n = from es n
 
 -- What is watched.
 
