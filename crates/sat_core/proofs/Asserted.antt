@@ -1,5 +1,5 @@
 -- A learned clause after the jump: it implies its first literal, and its first two literals are watched.
-use Rattle.std.proofs.Common.{◌≡◌, ◌≢◌, ℕ, ◌+◌, ◌<◌, ◌≤◌, ◌⊎◌, inl, inr, List, [], ◌∷◌, ◌++◌, length, get_or, ⊎_elim, refl, ap, sym, subst, ◌∙◌, arith, rules}
+use Rattle.std.proofs.Common.{◌≡◌, ◌≢◌, ℕ, ◌+◌, ◌<◌, ◌≤◌, ◌⊎◌, inl, inr, List, [], ◌∷◌, ◌++◌, length, get_or, ⊎_elim, refl, ap, sym, subst, ◌∙◌, arith}
 use Rattle.std.specs.Prelude.{Option, None, Some}
 use Rattle.std.specs.Option.{option_and_then}
 use Rattle.std.proofs.lemmas.List.{length_push}
@@ -13,13 +13,13 @@ use Rattle.sat_log.specs.declared.line.LogLine.{LogLine}
 use Rattle.sat_log.proofs.LiteralLemmas.{All-among}
 use Rattle.sat_watch.specs.Watched.{Watched, pair_at}
 use Rattle.sat_trail.specs.Trail.{Trailed, literals, top, before, bottom}
-use Rattle.sat_trail.specs.Units.{IsReason, IsTrail, AddsImplied}
+use Rattle.sat_trail.specs.Units.{IsReason, IsTrail}
 use Rattle.sat_trail.specs.declared.trail.Entry.{Entry}
 use Rattle.sat_trail.proofs.Trails.{consistent, before_all}
-use Rattle.sat_trail.proofs.Levels.{trail_distinct, All-before, before_lower, among_earlier, top_lower, bottom_inside, before_trail}
+use Rattle.sat_trail.proofs.Levels.{trail_distinct, All-before, before_lower, among_earlier, top_lower, bottom_inside}
 use Rattle.sat_trail.proofs.Growth.{implied_follows}
 use Rattle.sat_analysis.specs.Analysis.{IsAsserting, IsAsserted, IsJump}
-use Rattle.sat_propagation.specs.Watching.{Propagated, line_of, StandsFor, Backs, KeepsPair, IsPart, IsReady, IsWatchedFor, Adds, Serves}
+use Rattle.sat_propagation.specs.Watching.{Propagated, line_of, StandsFor, Backs, KeepsPair, IsPart, IsReady, Serves}
 use Rattle.sat_propagation.proofs.Ready.{ready_implied, ready_added, added_watched, ready_served, served_here, served_watched, bottom_one}
 use Rattle.sat_core.specs.Attached.{KeepsAttached, WatchesTwo, ServesIf}
 use Rattle.sat_core.specs.Search.{HasAsserted}

@@ -1,6 +1,6 @@
 -- The clauses that a search looks after, when the log, the trail or the watches have changed.
-use Rattle.std.proofs.Common.{◌≡◌, ◌≢◌, ℕ, zero, suc, ◌+◌, ◌-◌, ◌<◌, ◌≤◌, Bool, true, false, cond, eqb, ltb, ◌⊎◌, inl, inr, List, [], ◌∷◌, ◌++◌, length, take, get_or, ⊎_elim, refl, ap, sym, subst, ◌∙◌, append_assoc, arith}
-use Rattle.std.specs.Prelude.{Option, None, Some, is_some, IsSome, IfSome, IfNone, option_to_list, slice_get}
+use Rattle.std.proofs.Common.{◌≡◌, ℕ, zero, suc, ◌+◌, ◌-◌, ◌<◌, ◌≤◌, Bool, true, false, cond, eqb, ltb, ◌⊎◌, inl, inr, List, [], ◌∷◌, ◌++◌, length, take, get_or, ⊎_elim, refl, ap, sym, subst, ◌∙◌, append_assoc, arith}
+use Rattle.std.specs.Prelude.{Option, None, Some, is_some, IfSome, IfNone, option_to_list, slice_get}
 use Rattle.std.specs.Option.{option_and_then}
 use Rattle.std.specs.List.{AllByRecursion}
 use Rattle.std.proofs.lemmas.List.{append-nil, length_push, get_or_push, take_all}
@@ -23,7 +23,7 @@ use Rattle.sat_trail.proofs.Levels.{among_earlier, before_before}
 use Rattle.sat_propagation.specs.Watching.{Propagated, line_of, StandsFor, KeepsPair, IsReady, IsWatchedFor, KeepsLines, Adds, Serves}
 use Rattle.sat_propagation.proofs.Ready.{none_looked, ready_line, ready_decided, ready_wider, ready_added, ready_restarted, ready_served, added_watched, served_watched, lines_watched, ready_quiet}
 use Rattle.sat_watch.specs.Watched.{Pair, Watched, HasPlace, no_pair, pair_at}
-use Rattle.sat_core.specs.Attached.{IsServed, AreServed, KeepsAttached, WatchesTwo, Attaches}
+use Rattle.sat_core.specs.Attached.{IsServed, KeepsAttached, WatchesTwo, Attaches}
 
 -- What is true at level 0.
 

@@ -5,7 +5,6 @@ use Rattle.std.proofs.lemmas.List.{append-nil, drop_at}
 use Rattle.sat_log.specs.Literal.{Literal}
 use Rattle.sat_log.specs.Kept.{original}
 use Rattle.sat_log.specs.Learned.{AllFresh}
-use Rattle.sat_log.specs.declared.line.LineKind.TheVariants.{Original, Conflict}
 use Rattle.sat_log.specs.declared.line.LogLine.{LogLine}
 use Rattle.sat_core.specs.Gained.{gained, IsLonger, IsLearned, AreLearned}
 use Rattle.sat_core.specs.Search.{Searched, IsAtRest}

@@ -1,9 +1,8 @@
-use Rattle.std.proofs.Common.{◌≡◌, List, sym, subst}
-use Rattle.std.specs.Prelude.{Option, Some}
-use Rattle.sat_log.specs.Literal.{Literal}
+use Rattle.std.proofs.Common.{◌≡◌, sym, subst}
+use Rattle.std.specs.Prelude.{Some}
 use Rattle.sat_log.specs.Accepted.{clause_at}
 use Rattle.sat_trail.proofs.Logs.{named_distinct, named_up_to}
-use Rattle.sat_propagation.specs.Watching.{Propagated, IsReady}
+use Rattle.sat_propagation.specs.Watching.{IsReady}
 use Rattle.sat_core.specs.Attached.{WatchesTwo}
 use Rattle.sat_core.proofs.Attaching.{all_places, none_watched, two_ready, two_keeps_watched}
 use Rattle.sat_core.proofs.attach.attach_clause.Goals as goal
