@@ -1,4 +1,3 @@
-pub mod Looks
 pub mod Pairs
 pub mod Rules
 pub mod Walks

@@ -1,21 +1,19 @@
 -- What holds between calls, when the log, the trail or the watches have changed.
-use Rattle.std.proofs.Common.{◌≡◌, ◌≢◌, ℕ, ◌+◌, ◌-◌, ◌<◌, ◌≤◌, Bool, cond, ltb, ◌⊎◌, inl, inr, List, [], ◌∷◌, ◌++◌, length, drop, suc, get_or, refl, ap, sym, subst, ◌∙◌, arith}
-use Rattle.std.specs.Prelude.{Option, option_to_list}
-use Rattle.std.proofs.lemmas.Bool.{cases_eq, cases_lt, le-ltb}
+use Rattle.std.proofs.Common.{◌≡◌, ◌≢◌, ℕ, ◌+◌, ◌-◌, ◌<◌, ◌≤◌, Bool, cond, ◌⊎◌, inl, inr, List, [], ◌∷◌, ◌++◌, length, drop, suc, get_or, ap, sym, subst, ◌∙◌, arith}
+use Rattle.std.specs.Prelude.{option_to_list}
+use Rattle.std.proofs.lemmas.Bool.{cases_eq, le-ltb}
 use Rattle.std.proofs.lemmas.List.{get_or_append_left, length_push}
 use Rattle.sat_log.specs.Literal.{Literal, negated}
 use Rattle.sat_log.specs.Clause.{Among}
 use Rattle.sat_log.specs.Accepted.{clause_at}
 use Rattle.sat_log.specs.declared.line.LogLine.{LogLine}
-use Rattle.sat_watch.specs.Watched.{Pair, Watched, no_pair, pair_at, HasWatch}
+use Rattle.sat_watch.specs.Watched.{Pair, Watched, no_pair, pair_at}
 use Rattle.sat_trail.specs.Trail.{Trailed, literals, top, before, bottom, places}
-use Rattle.sat_trail.specs.Units.{AreQuiet, AddsImplied}
+use Rattle.sat_trail.specs.Units.{AreQuiet}
 use Rattle.sat_trail.specs.declared.trail.Entry.{Entry}
 use Rattle.sat_trail.proofs.Growth.{clause_stays}
-use Rattle.sat_trail.proofs.Levels.{bottom_inside}
-use Rattle.sat_trail.proofs.Trails.{before_all}
 use Rattle.sat_trail.proofs.WatchRules.{backed_before}
-use Rattle.sat_propagation.specs.Watching.{Propagated, line_of, IsUsed, StandsFor, AreStanding, Backs, KeepsPair, KeepsRule, IsReady, IsWatchedFor, KeepsLines, Adds, Serves}
+use Rattle.sat_propagation.specs.Watching.{Propagated, line_of, IsUsed, StandsFor, AreStanding, KeepsPair, KeepsRule, IsReady, IsWatchedFor, KeepsLines, Adds, Serves}
 use Rattle.sat_propagation.proofs.Quiet.{backed_next, watched_quiet}
 use Rattle.sat_propagation.proofs.Rules.{grown_rule}
 
