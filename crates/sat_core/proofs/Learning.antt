@@ -45,7 +45,7 @@ asked_before want level (e ∷ entries) a = by_level (ltb e.level level) (asked_
     by_level false rest = rest
 
 -- an entry of a variable has a level below this one
-level_below : (level at : ℕ) (entries : List Entry) (l : Literal) → AllByRecursion (λ f. f.level < level) entries → AllByRecursion (λ e. e.literal.var ≡ l.var → e.level ≡ at) entries → Among (literals entries) (negated l) → at < level
+pub level_below : (level at : ℕ) (entries : List Entry) (l : Literal) → AllByRecursion (λ f. f.level < level) entries → AllByRecursion (λ e. e.literal.var ≡ l.var → e.level ≡ at) entries → Among (literals entries) (negated l) → at < level
 level_below level at [] l lower same m = absurd m
 level_below level at (e ∷ entries) l lower same (inl here) =
     let first = lower.0 in

@@ -4,3 +4,7 @@ pub mod Meanings
 pub mod Steps
 pub mod Runs
 pub mod Rests
+pub mod Attaching
+pub mod Asserted
+pub mod Singles
+pub mod Learned

@@ -5,7 +5,6 @@ use Rattle.std.proofs.lemmas.List.{append-nil, drop_at}
 use Rattle.sat_log.specs.Literal.{Literal}
 use Rattle.sat_log.specs.Kept.{original}
 use Rattle.sat_log.specs.Learned.{AllFresh}
-use Rattle.sat_log.specs.declared.line.LineKind.TheVariants.{Original, Conflict}
 use Rattle.sat_log.specs.declared.line.LogLine.{LogLine}
 use Rattle.sat_core.specs.Gained.{gained, IsLonger, IsLearned, AreLearned}
 use Rattle.sat_core.specs.Search.{Searched, IsAtRest}
@@ -26,7 +25,7 @@ originals_learned before (c ∷ cs) = (original_learned before c, originals_lear
 
 -- some originals more, or none
 pub rest_added : {A E : Type 0} (r : Result A E) (old new : Searched) (cs : List (List Literal))
-    → OnOk r (new ≡ record { variables = old.variables; log = old.log ++ map original cs; entries = old.entries }) → OnErr r (new ≡ old) → IsAtRest old → IsAtRest new
+    → OnOk r (new ≡ record { variables = old.variables; log = old.log ++ map original cs; entries = old.entries; attached = old.attached; looked = old.looked }) → OnErr r (new ≡ old) → IsAtRest old → IsAtRest new
 rest_added (Ok x) old new cs ok err h =
     subst IsAtRest (sym ok) (record { level = h.level; learned = learned_append [] old.log (map original cs) h.learned (originals_learned old.log cs) })
 rest_added (Err x) old new cs ok err h = subst IsAtRest (sym err) h

@@ -20,7 +20,7 @@ use Rattle.sat_core.specs.Verdicts.{IsBelow, IsWithin, IfNo}
 use Rattle.sat_core.specs.declared.verdict.Verdict.{Verdict}
 use Rattle.sat_core.specs.declared.verdict.Verdict.TheVariants.{Yes, No, Spent}
 use Rattle.sat_trail.specs.Trail.{places}
-use Rattle.sat_core.specs.Search.{Searched, AddsLearned, AddsFinal, StepsTo}
+use Rattle.sat_core.specs.Search.{Searched, AddsLearned, AddsFinal, StepsTo, StaysAttached}
 use Rattle.sat_core.specs.declared.search.Step.{Step}
 use Rattle.sat_core.specs.declared.search.Step.TheVariants.{Learned, Decided}
 use Rattle.sat_core.specs.declared.budget.Budget.{Budget}
@@ -134,7 +134,7 @@ last_line : (log : List LogLine) (line : LogLine) → slice_get (log ++ line ∷
 last_line [] line = refl
 last_line (x ∷ log) line = last_line log line
 
-line_of_id : (log new : List LogLine) (line : LogLine) (id : ℕ) → new ≡ log ++ line ∷ [] → id ≡ length new → line_at new id ≡ Some line
+pub line_of_id : (log new : List LogLine) (line : LogLine) (id : ℕ) → new ≡ log ++ line ∷ [] → id ≡ length new → line_at new id ≡ Some line
 line_of_id log new line id same last =
     let sum : length new ≡ length log + 1 = ap length same ∙ length_push log line in
     let place : id - 1 ≡ length log = omega arith in
@@ -182,6 +182,11 @@ step_gains start want old new step (inl e) h s =
     learned_more start old.log new.log h (subst (λ (x : Step). StepsTo want old new x) e s)
 step_gains start want old new step (inr e) h s =
     subst (HasLearned start) (sym (subst (λ (x : Step). StepsTo want old new x) e s).0) h
+
+-- and all clauses stay attached
+pub stays_attached : (new : Searched) (step : Step) → (step ≡ Learned) ⊎ (step ≡ Decided) → StaysAttached new step → new.attached ≡ length new.log
+stays_attached new step (inl e) s = subst (StaysAttached new) e s
+stays_attached new step (inr e) s = subst (StaysAttached new) e s
 
 pub step_left : (start : List LogLine) (want : List Literal) (old new : Searched) (step : Step) (few : ℕ) → (step ≡ Learned) ⊎ (step ≡ Decided) → HasLearned start old.log → StepsTo want old new step → conflicts (gained start new.log) ≤ few → left few (conflicts (gained start new.log)) (places new.variables) (length new.entries) < left few (conflicts (gained start old.log)) (places new.variables) (length old.entries)
 step_left start want old new step few (inl e) h s most =

@@ -33,6 +33,10 @@ implied_top log [] old t h = refl
 implied_top log (e ∷ added) old t h =
     implied_cause log (added ++ old) e.literal e.level e.reason t.0.cause h.0 ∙ implied_top log added old t.1 h.1
 
+-- what is implied opens no level
+pub implied_level : (log : List LogLine) (old new : List Entry) → IsTrail log new → AddsImplied old new → top new ≡ top old
+implied_level log old new t a = ap top a.same ∙ implied_top log a.added old (subst (IsTrail log) a.same t) a.implied
+
 implied_before : (log : List LogLine) (added old : List Entry) (level : ℕ) → IsTrail log (added ++ old) → AllByRecursion (λ e. IsSome e.reason) added → level ≤ top old → before level (added ++ old) ≡ before level old
 implied_before log [] old level t h most = refl
 implied_before log (e ∷ added) old level t h most =

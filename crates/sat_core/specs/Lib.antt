@@ -4,3 +4,4 @@ pub mod Gained
 pub mod Verdicts
 pub mod Gains
 pub mod Search
+pub mod Attached

@@ -1,5 +1,5 @@
 -- What a search keeps between its steps.
-use Rattle.std.specs.Prelude.{◌≡◌, ◌⊎◌, ◌<◌, ◌≤◌, ℕ, None, List, [], ◌∷◌, ◌++◌, length}
+use Rattle.std.specs.Prelude.{◌≡◌, ◌⊎◌, ◌<◌, ◌≤◌, ℕ, None, Some, List, [], ◌∷◌, ◌++◌, length}
 use Rattle.std.specs.List.{AllByRecursion}
 use Rattle.sat_log.specs.Literal.{Literal, negated}
 use Rattle.sat_log.specs.Clause.{Among}
@@ -12,18 +12,21 @@ use Rattle.sat_core.specs.Assignment.{IsSolution}
 use Rattle.sat_core.specs.Gained.{AreLearned}
 use Rattle.sat_trail.specs.Trail.{Trailed, literals, top, places}
 use Rattle.sat_trail.specs.Units.{IsTrail, MissesNoUnit}
-use Rattle.sat_analysis.specs.Analysis.{Analyzed, IsUnmarked, AreNegationsOf}
+use Rattle.sat_analysis.specs.Analysis.{Analyzed, IsUnmarked, IsAsserted, AreNegationsOf}
 use Rattle.sat_trail.specs.declared.trail.Entry.{Entry}
 use Rattle.sat_core.specs.declared.decide.Decision.{Decision}
 use Rattle.sat_core.specs.declared.search.Step.{Step}
 use Rattle.sat_core.specs.declared.search.Step.TheVariants.{Learned, Decided, Yes, No}
 use Rattle.sat_core.specs.declared.decide.Decision.TheVariants.{Made, False, Complete}
 
--- how many variables there are, the log, and the entries of the trail
+-- how many variables there are, the log, the entries of the trail, the clauses of how many lines are attached, and how many
+-- entries propagation has looked at
 pub record Searched : Type 0 where
   pub variables : ℕ
   pub log : List LogLine
   pub entries : List Entry
+  pub attached : ℕ
+  pub looked : ℕ
 
 -- The log has only variables that exist, each entry of the trail has its cause, no unit was missed where a level opened,
 -- and nothing is marked.
@@ -78,3 +81,18 @@ StepsTo want old new Decided = (new.log ≡ old.log) × (length old.entries < le
     (length new.entries ≤ places new.variables)
 StepsTo want old new (Yes bits) = (new.log ≡ old.log) × IsSolution new.variables new.log want bits
 StepsTo want old new (No id) = (id ≡ length new.log) × AddsFinal want old.log new.log
+
+-- where a search goes on after a step, all clauses are attached
+abbrev pub StaysAttached : Searched → Step → Type 0
+StaysAttached new Learned = new.attached ≡ length new.log
+StaysAttached new Decided = new.attached ≡ length new.log
+StaysAttached new (Yes bits) = Unit {0}
+StaysAttached new (No id) = Unit {0}
+
+-- The latest literal is the first one of the clause of this id, which implies it: before it all other literals of the
+-- clause are false, and it is unset.
+abbrev pub HasAsserted : List Entry → List Literal → ℕ → Type 0
+HasAsserted [] lits id = ⊥
+HasAsserted (e ∷ entries) [] id = ⊥
+HasAsserted (e ∷ entries) (u ∷ others) id =
+    (e.literal ≡ u) × (e.reason ≡ Some id) × IsAsserted (literals entries) (u ∷ others)

@@ -44,6 +44,7 @@ impl Search {
         requires exist { IsUpTo self.old.variables want.now }
         requires quiet { AreQuiet (literals self.old.entries) (clauses self.old.log) }
         requires asked { AskedFirst want.now self.old.entries }
+        requires all { length self.old.entries ≤ self.old.looked }
         ensures decided { IsDecided want.now self.old.entries result }
         ensures complete { result ≡ Decision.Complete →
             AreAllSet self.old.variables (literals self.old.entries) }
@@ -53,6 +54,7 @@ impl Search {
             length self.new.entries ≤ places self.new.variables }
         ensures same { result ≢ Decision.Made → self.new.entries ≡ self.old.entries }
         ensures asked { AskedFirst want.now self.new.entries }
+        ensures attached { self.new.attached ≡ self.old.attached }
         ensures log { self.new.log ≡ self.old.log }
         ensures variables { self.new.variables ≡ self.old.variables }
     {

@@ -1,18 +1,21 @@
 //! Lines of the log: clauses learned from conflicts, and final ones.
 
-ghost use Rattle.std.specs.Prelude.{◌≡◌, ◌≢◌, ◌≤◌, ◌++◌, ◌∷◌, [], List, length, IfOk, OnOk, OnErr};
+ghost use Rattle.std.specs.Prelude.{◌≡◌, ◌≢◌, ◌<◌, ◌≤◌, ◌++◌, ◌∷◌, [], List, length, IfOk, IfSome, OnOk, OnErr};
 ghost use Rattle.sat_log.specs.Literal.{Literal, negated};
 ghost use Rattle.sat_log.specs.Clause.{Among, HasDistinctVariables};
 ghost use Rattle.sat_log.specs.Accepted.{IsLog, Accepts};
 ghost use Rattle.sat_log.specs.declared.line.LogLine.{LogLine};
 ghost use Rattle.sat_trail.specs.Trail.{literals, top};
 ghost use Rattle.sat_trail.specs.Units.{IsConflict};
-ghost use Rattle.sat_analysis.specs.Analysis.{IsAnalysis, IsAsserted};
-ghost use Rattle.sat_core.specs.Search.{AskedFirst, AddsLearned, AddsFinal};
+ghost use Rattle.sat_analysis.specs.Analysis.{IsAnalysis};
+ghost use Rattle.sat_core.specs.Attached.{ServesIf};
+ghost use Rattle.sat_core.specs.Search.{AskedFirst, AddsLearned, AddsFinal, HasAsserted};
 
+use crate::attach::watch_two;
 use crate::search::Search;
 use sat_analysis::Analysis;
 use sat_log::{AppendFault, LineKind, Log, LogLine, SLit};
+use sat_propagation::Propagation;
 use std::alloc::{AllocError, Global};
 
 /// Appends a line that the log accepts.
@@ -53,9 +56,19 @@ fn append_final(alloc: Global, log: &mut Log, analysis: &Analysis) -> Result<u64
     append(log, line)
 }
 
+/// Makes two literals that are watched, if they are, stand for the line of this id.
+fn serve(propagation: &mut Propagation, watcher: Option<usize>, id: u64)
+    requires { IfSome watcher (λ w. w < length propagation.old.watched.pairs) }
+    ensures { ServesIf propagation.old propagation.new watcher id }
+{
+    if let Some(watcher) = watcher {
+        propagation.serve(watcher, id);
+    }
+}
+
 impl Search {
-    /// Learns the clause of a conflict above level 0, and jumps back to the latest level among its literals but the one that it
-    /// asserts.
+    /// Learns the clause of a conflict above level 0, jumps back to the latest level among its literals but the one that it
+    /// asserts, and makes that one true.
     ///
     /// # Errors
     ///
@@ -64,11 +77,13 @@ impl Search {
         requires log { IsLog self.old.log }
         requires conflict { IsConflict self.old.log (literals self.old.entries) conflict }
         requires above { 1 ≤ top self.old.entries }
+        requires attached { self.old.attached ≡ length self.old.log }
         ensures ok { OnOk result (AddsLearned self.old.log self.new.log) }
         ensures err { OnErr result (self.new.log ≡ self.old.log) }
-        // The jump goes to exactly the latest level among the clause's literals but the first, which is unset then.
+        // The jump goes to exactly the latest level among the clause's literals but the first, which the clause then implies.
         ensures jump { (line : LogLine) → self.new.log ≡ self.old.log ++ line ∷ [] →
-            IsAsserted (literals self.new.entries) line.lits }
+            HasAsserted self.new.entries line.lits (length self.new.log) }
+        ensures attached { OnOk result (self.new.attached ≡ length self.new.log) }
         ensures asked { (want : List Literal) → AskedFirst want self.old.entries →
             AskedFirst want self.new.entries }
         ensures variables { self.new.variables ≡ self.old.variables }
@@ -76,8 +91,13 @@ impl Search {
         self.analysis.analyze(&self.log, &self.trail, conflict);
         let line = self.analysis.line(self.alloc, LineKind::Conflict)?;
         let level = self.analysis.jump_level(&self.trail);
-        append(&mut self.log, line)?;
-        self.trail.backjump(level);
+        let asserted = line.lits.as_slice()[0];
+        let watcher = watch_two(&mut self.propagation, line.lits.as_slice())?;
+        let id = append(&mut self.log, line)?;
+        self.propagation.backjump(&mut self.trail, level);
+        self.trail.imply(asserted, id);
+        serve(&mut self.propagation, watcher, id);
+        self.attached = id;
         Ok(())
     }
 

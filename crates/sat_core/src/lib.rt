@@ -5,6 +5,7 @@
 //! learns is a line of the log that follows from those before it.
 #![tactic(auto)]
 
+mod attach;
 mod budget;
 mod decide;
 pub mod laws;

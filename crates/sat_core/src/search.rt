@@ -14,14 +14,14 @@ ghost use Rattle.sat_core.specs.Gains.{outcome, Gains};
 ghost use Rattle.sat_core.specs.Verdicts.{IfYes, IfNo};
 ghost use Rattle.sat_trail.specs.Trail.{literals, top};
 ghost use Rattle.sat_trail.specs.Units.{IsConflict, AreQuiet};
-ghost use Rattle.sat_core.specs.Search.{AskedFirst, StepsTo};
+ghost use Rattle.sat_core.specs.Search.{AskedFirst, StepsTo, StaysAttached};
 
 use crate::decide::Decision;
 use crate::laws::{final_line_refutes, learned_lines_are_few, learned_lines_are_fresh};
 use crate::{Budget, SBits, Verdict};
 use sat_analysis::Analysis;
 use sat_log::{Log, SLit, SLits};
-use sat_propagation::propagate;
+use sat_propagation::Propagation;
 use sat_trail::Trail;
 use std::alloc::{AllocError, Global};
 use std::marker::Model;
@@ -39,17 +39,23 @@ enum Step {
     No(u64),
 }
 
-/// The log, the trail, and what conflict analysis works in.
+/// The log, the trail, and what conflict analysis and propagation work in.
 #[derive(Debug, Drop)]
 pub(crate) struct Search {
     pub(crate) alloc: Global,
     pub(crate) log: Log,
     pub(crate) trail: Trail,
     pub(crate) analysis: Analysis,
+    pub(crate) propagation: Propagation,
+    /// The clauses of so many lines are attached: each is watched, or true at level 0.
+    pub(crate) attached: u64,
+    /// A clause that is false at level 0, by its id.
+    pub(crate) refuted: Option<u64>,
 }
 
 impl Model for Search {
     ghost use Rattle.sat_core.specs.Search.{Searched, KeepsSearch};
+    ghost use Rattle.sat_core.specs.Attached.{KeepsAttached};
 
     ghost Value = { Searched };
 
@@ -57,9 +63,12 @@ impl Model for Search {
       variables = s.trail.variables;
       log = s.log;
       entries = s.trail.entries;
+      attached = s.attached;
+      looked = s.propagation.looked;
     } };
 
-    ghost invariant = { λ s. KeepsSearch s.log s.trail s.analysis };
+    ghost invariant = { λ s. KeepsSearch s.log s.trail s.analysis ×
+        KeepsAttached s.log s.trail s.propagation s.attached s.refuted };
 }
 
 impl Search {
@@ -69,13 +78,22 @@ impl Search {
     ///
     /// `AllocError` where memory is refused.
     pub(crate) fn new(alloc: Global) -> Result<Search, AllocError>
-        ensures { IfOk result (λ s. s ≡ record { variables = 0; log = []; entries = [] }) }
+        ensures { IfOk result (λ s. s ≡ record {
+          variables = 0;
+          log = [];
+          entries = [];
+          attached = 0;
+          looked = 0;
+        }) }
     {
         Ok(Search {
             alloc,
             log: Log::new(alloc)?,
             trail: Trail::new(alloc)?,
             analysis: Analysis::new(alloc)?,
+            propagation: Propagation::new(alloc)?,
+            attached: 0,
+            refuted: None,
         })
     }
 
@@ -104,10 +122,13 @@ impl Search {
           variables = self.old.variables + 1;
           log = self.old.log;
           entries = self.old.entries;
+          attached = self.old.attached;
+          looked = self.old.looked;
         }) }
         ensures err { OnErr result (self.new ≡ self.old) }
     {
         self.analysis.make_room(self.trail.variables() + 1)?;
+        self.propagation.add_variable()?;
         self.trail.add_variable()
     }
 
@@ -125,6 +146,8 @@ impl Search {
           variables = self.old.variables;
           log = self.old.log ++ original lits.now ∷ [];
           entries = self.old.entries;
+          attached = self.old.attached;
+          looked = self.old.looked;
         }) }
         ensures id { IfOk result (λ id. id ≡ length self.new.log) }
         ensures err { OnErr result (self.new ≡ self.old) }
@@ -145,6 +168,8 @@ impl Search {
           variables = self.old.variables;
           log = self.old.log ++ map original clauses.now;
           entries = self.old.entries;
+          attached = self.old.attached;
+          looked = self.old.looked;
         }) }
         ensures err { OnErr result (self.new ≡ self.old) }
     {
@@ -184,26 +209,35 @@ impl Search {
     pub(crate) fn reset(&mut self)
         ensures level { top self.new.entries ≡ 0 }
         ensures asked { (want : List Literal) → AskedFirst want self.new.entries }
+        ensures attached { self.new.attached ≡ self.old.attached }
         ensures log { self.new.log ≡ self.old.log }
         ensures variables { self.new.variables ≡ self.old.variables }
     {
-        self.trail.backjump(0);
+        self.propagation.backjump(&mut self.trail, 0);
     }
 
-    /// Makes true what unit clauses imply. Answers the id of a clause that is false, if one is.
+    /// Makes true what unit clauses imply, where all clauses are attached. Answers the id of a clause that is false, if
+    /// one is.
     fn propagate(&mut self) -> Option<u64>
+        requires log { IsLog self.old.log }
+        requires attached { self.old.attached ≡ length self.old.log }
         ensures conflict { IfSome result (IsConflict self.new.log (literals self.new.entries)) }
         ensures quiet { IfNone result (AreQuiet (literals self.new.entries)
             (clauses self.new.log)) }
         ensures asked { (want : List Literal) → AskedFirst want self.old.entries →
             AskedFirst want self.new.entries }
         ensures longer { length self.old.entries ≤ length self.new.entries }
+        ensures all { IfNone result (length self.new.entries ≤ self.new.looked) }
+        ensures attached { self.new.attached ≡ self.old.attached }
         ensures log { self.new.log ≡ self.old.log }
         ensures is_log { IsLog self.new.log }
         ensures exist { AreUpTo self.new.variables self.new.log }
         ensures variables { self.new.variables ≡ self.old.variables }
     {
-        propagate(&self.log, &mut self.trail)
+        if self.refuted.is_some() {
+            return self.refuted;
+        }
+        self.propagation.propagate(&self.log, &mut self.trail)
     }
 
     /// One step of a search: propagation, and then a clause that is learned, a decision, or an answer.
@@ -215,7 +249,10 @@ impl Search {
         requires distinct { HasDistinctVariables want.now }
         requires exist { IsUpTo self.old.variables want.now }
         requires asked { AskedFirst want.now self.old.entries }
+        requires log { IsLog self.old.log }
+        requires attached { self.old.attached ≡ length self.old.log }
         ensures step { IfOk result (StepsTo want.now self.old self.new) }
+        ensures attached { IfOk result (StaysAttached self.new) }
         ensures err { OnErr result (self.new.log ≡ self.old.log) }
         ensures asked { AskedFirst want.now self.new.entries }
         ensures variables { self.new.variables ≡ self.old.variables }
@@ -255,6 +292,7 @@ impl Search {
         final_line_refutes();
         self.reset();
         let start = self.lines();
+        self.attach()?;
         let mut learned = 0;
         while budget.allows(learned) {
             let step = self.step(want);

@@ -1,5 +1,5 @@
-pub mod Looks
 pub mod Pairs
 pub mod Rules
 pub mod Walks
 pub mod Quiet
+pub mod Ready

@@ -1,5 +1,5 @@
 -- A pair of watched literals, and the same with another in place of one.
-use Rattle.std.proofs.Common.{◌≡◌, ◌≢◌, ℕ, ◌<◌, ◌≤◌, length, Bool, cond, ◌⊎◌, inl, inr, List, ◌∷◌, ap, sym, subst, ◌∙◌, arith}
+use Rattle.std.proofs.Common.{◌≡◌, ◌≢◌, ℕ, ◌<◌, ◌≤◌, length, Bool, cond, ◌⊎◌, inl, inr, List, ◌∷◌, refl, ap, sym, subst, ◌∙◌, arith}
 use Rattle.std.specs.Prelude.{Option, Some}
 use Rattle.std.specs.List.{AllByRecursion}
 use Rattle.std.proofs.lemmas.Bool.{cases_eq, eq-eqb, ne_eqb, le-ltb}
@@ -34,6 +34,18 @@ module _ (pair : Pair) (l to : Literal) (apart : pair.first ≢ pair.second) (ha
           second_gone : (pair.first ≡ x) ⊎ (to ≡ x) → (x ≡ to) ⊎ (HasWatch pair x × (x ≢ l))
           second_gone (inl here) = inr (inl here, (λ y. ne (ap packed (here ∙ y))))
           second_gone (inr there) = inl (sym there)
+
+  -- they are still two
+  pub changed_apart : ((x : Literal) → HasWatch pair x → x ≢ l → to ≢ x) → (changed pair l to).first ≢ (changed pair l to).second
+  changed_apart other = by_first (cases_eq (packed pair.first) (packed l))
+    where
+      by_first : (packed pair.first ≡ packed l) ⊎ (packed pair.first ≡ packed l → ⊥) → (changed pair l to).first ≢ (changed pair l to).second
+      by_first (inl same) =
+          subst (λ (b : Bool). (cond {A = Pair} b (record { first = to; second = pair.second }) (record { first = pair.first; second = to })).first ≢ (cond {A = Pair} b (record { first = to; second = pair.second }) (record { first = pair.first; second = to })).second) (sym (eq-eqb (packed pair.first) (packed l) same))
+          (other pair.second (inr refl) (λ e. apart (packed_injective pair.first l same ∙ sym e)))
+      by_first (inr ne) =
+          subst (λ (b : Bool). (cond {A = Pair} b (record { first = to; second = pair.second }) (record { first = pair.first; second = to })).first ≢ (cond {A = Pair} b (record { first = to; second = pair.second }) (record { first = pair.first; second = to })).second) (sym (ne_eqb (packed pair.first) (packed l) ne))
+          (λ e. other pair.first (inl refl) (λ f. ne (ap packed f)) (sym e))
 
   -- where the old one is false and the new one isn't, the pair keeps what it did
   pub changed_keeps : (part entries : List Entry) → HasDistinctVariables (literals entries) → IsPart part entries → Among (literals entries) (negated l) → ¬ Among (literals entries) (negated to) → KeepsPair part entries pair → KeepsPair part entries (changed pair l to)

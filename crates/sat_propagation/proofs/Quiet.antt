@@ -6,7 +6,7 @@ use Rattle.sat_log.specs.Literal.{Literal, negated}
 use Rattle.sat_log.specs.Clause.{Among}
 use Rattle.sat_log.specs.Accepted.{clause_at}
 use Rattle.sat_log.specs.declared.line.LogLine.{LogLine}
-use Rattle.sat_watch.specs.Watched.{pair_at, IsWatching}
+use Rattle.sat_watch.specs.Watched.{pair_at}
 use Rattle.sat_trail.specs.Trail.{literals, top, before}
 use Rattle.sat_trail.specs.Units.{AreQuiet}
 use Rattle.sat_trail.specs.WatchRule.{IsBacked}
@@ -19,7 +19,7 @@ whole : (entries : List Entry) → before (top entries + 1) entries ≡ entries
 whole entries = before_all (top entries) entries (omega arith)
 
 -- what backs a literal in the whole trail does so as if the next level opened
-backed_next : (entries : List Entry) (a b : Literal) → Backs entries entries a b → IsBacked (top entries + 1) entries a b
+pub backed_next : (entries : List Entry) (a b : Literal) → Backs entries entries a b → IsBacked (top entries + 1) entries a b
 backed_next entries a b k level most m = by_level (cases_lt level (top entries + 1))
   where
     by_level : (level < top entries + 1) ⊎ (top entries + 1 ≤ level) → Among (literals (before level entries)) b
@@ -29,11 +29,11 @@ backed_next entries a b k level most m = by_level (cases_lt level (top entries +
         let now : before level entries ≡ entries = ap (λ (n : ℕ). before n entries) last ∙ whole entries in
         subst (λ (es : List Entry). Among (literals es) b) (sym now) (k.now (subst (λ (es : List Entry). Among (literals es) (negated a)) now m))
 
-pub watched_quiet : (log : List LogLine) (entries : List Entry) (p : Propagated) (w : ℕ) → IsWatching p.watched → AreStanding log p → KeepsRule entries entries p → IsUsed p w → AreQuiet (literals entries) (option_to_list (clause_at log (line_of p w)))
-watched_quiet log entries p w exact standing rule used =
+pub watched_quiet : (log : List LogLine) (entries : List Entry) (p : Propagated) (w : ℕ) → AreStanding log p → KeepsRule entries entries p → IsUsed p w → AreQuiet (literals entries) (option_to_list (clause_at log (line_of p w)))
+watched_quiet log entries p w standing rule used =
     let s = standing w used in
     let pair = pair_at p.watched w in
-    let apart = exact.two w used.0 in
+    let apart = s.apart in
     let quiet = rule_quiet (top entries + 1) (top entries + 1) entries (s.clause ∷ []) (omega arith) (
       record {
         first = pair.first;

@@ -1,5 +1,5 @@
 -- The watch rule, and where clauses stand, after a watch moved and after a literal became true.
-use Rattle.std.proofs.Common.{◌≡◌, ◌≢◌, ℕ, ◌<◌, ◌⊎◌, inl, inr, List, [], ◌∷◌, length, drop, ◌++◌, ◌+◌, ◌-◌, ◌≤◌, suc, get_or, ap, sym, subst, ◌∙◌, get_or-set_same, get_or-set_other, length-set, arith}
+use Rattle.std.proofs.Common.{◌≡◌, ◌≢◌, ℕ, ◌<◌, ◌⊎◌, inl, inr, List, [], ◌∷◌, length, drop, ◌++◌, ◌+◌, ◌-◌, ◌≤◌, suc, get_or, refl, ap, sym, subst, ◌∙◌, get_or-set_same, get_or-set_other, length-set, arith}
 use Rattle.std.specs.Prelude.{Some}
 use Rattle.std.proofs.lemmas.Bool.{cases_eq}
 use Rattle.std.proofs.lemmas.List.{length-append, length-drop}
@@ -12,8 +12,8 @@ use Rattle.sat_log.proofs.LiteralLemmas.{negated-negated}
 use Rattle.sat_trail.specs.Trail.{literals, top, bottom}
 use Rattle.sat_trail.specs.Units.{AddsImplied}
 use Rattle.sat_trail.specs.declared.trail.Entry.{Entry}
-use Rattle.sat_propagation.specs.Watching.{Propagated, line_of, IsUsed, StandsFor, AreStanding, KeepsPair, KeepsRule, IsPart, AreSettled, MovesAway}
-use Rattle.sat_propagation.proofs.Pairs.{changed_has, changed_keeps, grown_keeps}
+use Rattle.sat_propagation.specs.Watching.{Propagated, line_of, IsUsed, StandsFor, AreStanding, KeepsPair, KeepsRule, IsPart, AreSettled, MovesAway, KeepsLines}
+use Rattle.sat_propagation.proofs.Pairs.{changed_has, changed_apart, changed_keeps, grown_keeps}
 
 module _ (old new : Propagated) (l : Literal) (w : ℕ) (moves : MovesAway old new l w) (below : w < length old.watched.pairs) where
   pub used_before : (r : ℕ) → IsUsed new r → IsUsed old r
@@ -37,8 +37,8 @@ module _ (old new : Propagated) (l : Literal) (w : ℕ) (moves : MovesAway old n
             (changed_keeps (pair_at old.watched w) l moves.to apart has part entries d inside false_ open_ (subst (λ (x : ℕ). KeepsPair part entries (pair_at old.watched x)) same (keeps r (used_before r u)))))
         by_place (inr ne) = subst (KeepsPair part entries) (sym (pair_there r ne)) (keeps r (used_before r u))
 
-    pub moved_stands : (log : List LogLine) (c : List Literal) → clause_at log (line_of old w) ≡ Some c → Among c moves.to → AreStanding log old → AreStanding log new
-    moved_stands log c named stands all r u = by_place (cases_eq r w)
+    pub moved_stands : (log : List LogLine) (c : List Literal) → clause_at log (line_of old w) ≡ Some c → Among c moves.to → ((x : Literal) → HasWatch (pair_at old.watched w) x → x ≢ l → moves.to ≢ x) → AreStanding log old → AreStanding log new
+    moved_stands log c named stands other all r u = by_place (cases_eq r w)
       where
         ids : line_of old r ≡ line_of new r
         ids = ap (λ (xs : List ℕ). get_or xs r 0) (sym moves.ids)
@@ -49,6 +49,7 @@ module _ (old new : Propagated) (l : Literal) (w : ℕ) (moves : MovesAway old n
               clause = s.clause;
               named = s.named;
               stands = (λ x m. by_watch x (changed_has (pair_at old.watched w) l moves.to apart has x m));
+              apart = changed_apart (pair_at old.watched w) l moves.to apart has other;
             }
           where
             same_clause : c ≡ s.clause
@@ -103,3 +104,22 @@ pub entry_below : (entries : List Entry) (e : Entry) (i : ℕ) → bottom (i + 1
 entry_below entries e i h =
     let size : length (bottom (i + 1) entries) ≡ suc (length (bottom i entries)) = ap length h in
     omega (arith, size, length-drop (length entries - (i + 1)) entries, length-drop (length entries - i) entries)
+
+-- The lines for which pairs watch.
+
+pub lines_same : (p : Propagated) → KeepsLines p p
+lines_same p = record { pairs = refl; ids = refl; lists = refl }
+
+pub lines_twice : (old mid new : Propagated) → KeepsLines old mid → KeepsLines mid new → KeepsLines old new
+lines_twice old mid new a b = record { pairs = b.pairs ∙ a.pairs; ids = b.ids ∙ a.ids; lists = b.lists ∙ a.lists }
+
+pub lines_moved : (old new : Propagated) (l : Literal) (w : ℕ) → MovesAway old new l w → KeepsLines old new
+lines_moved old new l w m =
+    record {
+      pairs = ap length m.pairs ∙ length-set old.watched.pairs w (changed (pair_at old.watched w) l m.to);
+      ids = m.ids;
+      lists = m.lists.places;
+    }
+
+pub lines_looked : (old new : Propagated) (n : ℕ) → KeepsLines old new → KeepsLines old (record { watched = new.watched; ids = new.ids; looked = n })
+lines_looked old new n k = record { pairs = k.pairs; ids = k.ids; lists = k.lists }

@@ -1,11 +1,11 @@
 -- How the clauses of a log are watched, and what that keeps while literals become true.
-use Rattle.std.specs.Prelude.{◌≡◌, ◌≢◌, ◌<◌, ℕ, Some, List, length, slice_index_or}
+use Rattle.std.specs.Prelude.{◌≡◌, ◌≢◌, ◌<◌, ◌≤◌, ℕ, Some, List, [], ◌∷◌, ◌++◌, length, slice_index_or}
 use Rattle.sat_log.specs.Literal.{Literal, negated}
 use Rattle.sat_log.specs.Clause.{Among}
 use Rattle.sat_log.specs.Accepted.{clause_at}
 use Rattle.sat_log.specs.declared.line.LogLine.{LogLine}
 use Rattle.sat_watch.specs.Watched.{Pair, Watched, pair_at, HasWatch, set_pair, Moves}
-use Rattle.sat_trail.specs.Trail.{literals, top}
+use Rattle.sat_trail.specs.Trail.{Trailed, literals, top, bottom, places}
 use Rattle.sat_trail.specs.Units.{IsConflict}
 use Rattle.sat_trail.specs.WatchRule.{IsBacked}
 use Rattle.sat_trail.specs.declared.trail.Entry.{Entry}
@@ -32,11 +32,12 @@ pub record MayWatch (set : List Literal) (one other l : Literal) : Type 0 where
   pub not_other : l ≢ other
   pub not_false : ¬ Among set (negated l)
 
--- both literals stand in the clause of this id
+-- both literals stand in the clause of this id, and they are two
 pub record StandsFor (log : List LogLine) (id : ℕ) (pair : Pair) : Type 0 where
   pub clause : List Literal
   pub named : clause_at log id ≡ Some clause
   pub stands : (l : Literal) → HasWatch pair l → Among clause l
+  pub apart : pair.first ≢ pair.second
 
 abbrev pub AreStanding : List LogLine → Propagated → Type 0
 AreStanding log p = (w : ℕ) → IsUsed p w → StandsFor log (line_of p w) (pair_at p.watched w)
@@ -54,6 +55,42 @@ KeepsPair part entries pair = (a b : Literal) → HasWatch pair a → HasWatch p
 -- the watch rule
 abbrev pub KeepsRule : List Entry → List Entry → Propagated → Type 0
 KeepsRule part entries p = (w : ℕ) → IsUsed p w → KeepsPair part entries (pair_at p.watched w)
+
+-- What holds between calls: there are lists for all variables, each pair stands in its clause, no more of the trail was
+-- looked at than there is, and the watch rule holds.
+pub record IsReady (log : List LogLine) (trail : Trailed) (p : Propagated) : Type 0 where
+  pub lists : places trail.variables ≤ length p.watched.lists
+  pub standing : AreStanding log p
+  pub within : p.looked ≤ length trail.entries
+  pub rule : KeepsRule (bottom p.looked trail.entries) trail.entries p
+
+-- one of the pairs watches for the line of this id
+pub record IsWatchedFor (p : Propagated) (id : ℕ) : Type 0 where
+  pub watcher : ℕ
+  pub used : IsUsed p watcher
+  pub line : line_of p watcher ≡ id
+
+-- as many pairs, for the same lines, and as many lists
+pub record KeepsLines (old new : Propagated) : Type 0 where
+  pub pairs : length new.watched.pairs ≡ length old.watched.pairs
+  pub ids : new.ids ≡ old.ids
+  pub lists : length new.watched.lists ≡ length old.watched.lists
+
+-- one pair more, of this number, which watches for no line
+pub record Adds (old new : Propagated) (first second : Literal) (w : ℕ) : Type 0 where
+  pub number : w ≡ length old.watched.pairs
+  pub pairs : new.watched.pairs ≡ old.watched.pairs ++ record { first = first; second = second } ∷ []
+  pub unused : line_of new w ≡ 0
+  pub lines : (r : ℕ) → line_of new r ≡ line_of old r
+  pub lists : length new.watched.lists ≡ length old.watched.lists
+  pub looked : new.looked ≡ old.looked
+
+-- the pair of this number watches for the line of this id, and all else is as it was
+pub record Serves (old new : Propagated) (w id : ℕ) : Type 0 where
+  pub line : line_of new w ≡ id
+  pub others : (r : ℕ) → r ≢ w → line_of new r ≡ line_of old r
+  pub watched : new.watched ≡ old.watched
+  pub looked : new.looked ≡ old.looked
 
 -- these entries are some of those
 abbrev pub IsPart : List Entry → List Entry → Type 0

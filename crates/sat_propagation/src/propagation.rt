@@ -1,21 +1,22 @@
 //! Unit propagation over watched literals (Moskewicz and others 2001).
 
-ghost use Rattle.std.specs.Prelude.{◌≡◌, ◌≢◌, ◌⊎◌, ◌+◌, ◌<◌, ◌≤◌, List, [], None, Some, length, IfSome, IfNone, IsTrue, ◌↔◌};
+ghost use Rattle.std.specs.Prelude.{◌≡◌, ◌≢◌, ◌+◌, ◌<◌, ◌≤◌, ℕ, List, [], ◌∷◌, Some, length, IfOk, IfSome, IfNone, OnOk, OnErr, IsTrue, ◌↔◌};
 ghost use Rattle.std.specs.List.{AllByRecursion};
 ghost use Rattle.sat_log.specs.Literal.{Literal, negated};
 ghost use Rattle.sat_log.specs.Clause.{Among};
 ghost use Rattle.sat_log.specs.Accepted.{IsLog, clause_at};
 ghost use Rattle.sat_log.specs.Checking.{IsUpTo, AreUpTo};
+ghost use Rattle.sat_log.specs.declared.line.LogLine.{LogLine};
 ghost use Rattle.sat_watch.specs.Watched.{HasPlace, HasWatch, IsWatching, IsAmong, watchers, pair_at, after};
-ghost use Rattle.sat_trail.specs.Trail.{literals, bottom, places};
+ghost use Rattle.sat_trail.specs.Trail.{literals, before, places};
 ghost use Rattle.sat_trail.specs.Units.{IsTrail, IsConflict, AddsImplied};
 ghost use Rattle.sat_trail.specs.declared.trail.Entry.{Entry};
-ghost use Rattle.sat_propagation.specs.Watching.{MayWatch, AreStanding, KeepsRule, IsPart, AreSettled, VisitsTo};
+ghost use Rattle.sat_propagation.specs.Watching.{MayWatch, AreStanding, KeepsRule, IsReady, KeepsLines, Adds, Serves, IsPart, AreSettled, VisitsTo};
 
 use sat_log::{Log, SLit};
 use sat_trail::{Trail, clause_at};
 use sat_watch::Watches;
-use std::alloc::Global;
+use std::alloc::{AllocError, Global};
 use std::marker::Model;
 
 /// What comes of a visit of a clause that watches a literal which became false.
@@ -94,18 +95,91 @@ fn find_at(log: &Log, trail: &Trail, id: u64, one: SLit, other: SLit) -> Option<
 }
 
 impl Propagation {
-    /// No clauses, and nothing looked at.
-    pub fn new(alloc: Global) -> Propagation
-        ensures { result ≡ record {
-          watched = record { pairs = []; lists = [] };
+    /// No clauses, and nothing looked at. There are lists for the two places that no literal has.
+    ///
+    /// # Errors
+    ///
+    /// `AllocError` where memory is refused.
+    pub fn new(alloc: Global) -> Result<Propagation, AllocError>
+        ensures { IfOk result (λ p. p ≡ record {
+          watched = record { pairs = []; lists = [] ∷ [] ∷ [] };
           ids = [];
           looked = 0;
-        } }
+        }) }
     {
-        Propagation {
-            watches: Watches::new(alloc),
+        let mut watches = Watches::new(alloc);
+        watches.add_place()?;
+        watches.add_place()?;
+        Ok(Propagation {
+            watches,
             ids: Vec::new(alloc),
             looked: 0,
+        })
+    }
+
+    /// Makes lists for the literals of one variable more.
+    ///
+    /// # Errors
+    ///
+    /// `AllocError` where memory is refused; what is watched stays as it was.
+    pub fn add_variable(&mut self) -> Result<(), AllocError>
+        ensures ok { OnOk result
+            (length self.new.watched.lists ≡ length self.old.watched.lists + 2) }
+        ensures lists { length self.old.watched.lists ≤ length self.new.watched.lists }
+        ensures pairs { self.new.watched.pairs ≡ self.old.watched.pairs }
+        ensures ids { self.new.ids ≡ self.old.ids }
+        ensures looked { self.new.looked ≡ self.old.looked }
+    {
+        self.watches.add_place()?;
+        self.watches.add_place()
+    }
+
+    /// Watches two literals more, for no line yet, and answers their number.
+    ///
+    /// # Errors
+    ///
+    /// `AllocError` where memory is refused; all stays as it was.
+    pub fn add(&mut self, first: SLit, second: SLit) -> Result<usize, AllocError>
+        requires first { HasPlace self.old.watched first }
+        requires second { HasPlace self.old.watched second }
+        requires apart { first ≢ second }
+        ensures ok { IfOk result (Adds self.old self.new first second) }
+        ensures err { OnErr result (self.new ≡ self.old) }
+    {
+        self.ids.reserve(1)?;
+        let watcher = self.watches.add(first, second)?;
+        self.ids.push_reserved(0);
+        Ok(watcher)
+    }
+
+    /// Makes two literals that are watched stand for the line of this id.
+    pub fn serve(&mut self, watcher: usize, id: u64)
+        requires { watcher < length self.old.watched.pairs }
+        ensures { Serves self.old self.new watcher id }
+    {
+        self.ids[watcher] = id;
+    }
+
+    /// Forgets what was looked at: the whole trail is looked at again.
+    pub fn restart(&mut self)
+        ensures { self.new ≡
+            record { watched = self.old.watched; ids = self.old.ids; looked = 0 } }
+    {
+        self.looked = 0;
+    }
+
+    /// Takes back what is true since a later level than this one opened. What stays was looked at, if any was taken back.
+    pub fn backjump(&mut self, trail: &mut Trail, level: u64)
+        ensures entries { trail.new.entries ≡ before (level + 1) trail.old.entries }
+        ensures variables { trail.new.variables ≡ trail.old.variables }
+        ensures ready { (log : List LogLine) → IsReady log trail.old self.old →
+            IsReady log trail.new self.new }
+        ensures watched { self.new.watched ≡ self.old.watched }
+        ensures ids { self.new.ids ≡ self.old.ids }
+    {
+        if trail.level() > level {
+            trail.backjump(level);
+            self.looked = trail.len();
         }
     }
 
@@ -171,6 +245,7 @@ impl Propagation {
             }
         }
     }
+
     /// The first that watches a literal, or the one right behind another that does.
     fn behind(&self, literal: SLit, before: Option<usize>) -> Option<usize>
         requires place { HasPlace self.now.watched literal }
@@ -201,7 +276,7 @@ impl Propagation {
         ensures trail { IsTrail log.now trail.new.entries }
         ensures implied { AddsImplied trail.old.entries trail.new.entries }
         ensures variables { trail.new.variables ≡ trail.old.variables }
-        ensures places { length self.new.watched.lists ≡ length self.old.watched.lists }
+        ensures lines { KeepsLines self.old self.new }
         ensures looked { self.new.looked ≡ self.old.looked }
     {
         let mut before = None;
@@ -221,19 +296,14 @@ impl Propagation {
         requires log { IsLog log.now }
         requires trail { IsTrail log.now trail.old.entries }
         requires exist { AreUpTo trail.old.variables log.now }
-        requires places { places trail.old.variables ≤ length self.old.watched.lists }
-        requires standing { AreStanding log.now self.old }
-        requires rule { KeepsRule (bottom self.old.looked trail.old.entries)
-            trail.old.entries self.old }
+        requires ready { IsReady log.now trail.old self.old }
         ensures conflict { IfSome result (IsConflict log.now (literals trail.new.entries)) }
         ensures all { IfNone result (length trail.new.entries ≤ self.new.looked) }
-        ensures standing { AreStanding log.now self.new }
-        ensures rule { KeepsRule (bottom self.new.looked trail.new.entries)
-            trail.new.entries self.new }
+        ensures ready { IsReady log.now trail.new self.new }
         ensures trail { IsTrail log.now trail.new.entries }
         ensures implied { AddsImplied trail.old.entries trail.new.entries }
         ensures variables { trail.new.variables ≡ trail.old.variables }
-        ensures places { length self.new.watched.lists ≡ length self.old.watched.lists }
+        ensures lines { KeepsLines self.old self.new }
     {
         while self.looked < trail.len() {
             let entry = trail.entry(self.looked);

@@ -1,5 +1,4 @@
 use Rattle.std.proofs.Common.{arith}
-use Rattle.sat_trail.specs.Trail.{literals}
 use Rattle.sat_trail.proofs.Literals.{stands_at}
 use Rattle.sat_core.proofs.decide.first_open.Goals as goal
 

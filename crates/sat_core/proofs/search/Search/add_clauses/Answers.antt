@@ -6,6 +6,8 @@ use Rattle.sat_log.specs.Kept.{original}
 use Rattle.sat_log.specs.declared.line.LogLine.{LogLine}
 use Rattle.sat_trail.specs.Trail.{top}
 use Rattle.sat_core.specs.Search.{Searched, KeepsSearch}
+use Rattle.sat_core.specs.Attached.{KeepsAttached}
+use Rattle.sat_core.proofs.Attaching.{attached_lines}
 use Rattle.sat_core.proofs.Searches.{keeps_originals}
 use Rattle.sat_core.proofs.search.Search.add_clauses.Goals as goal
 
@@ -18,4 +20,4 @@ invariant_of-self c =
     let s = c.self.inside in
     let none = ap (λ (v : Searched). top v.entries) c.self.view_is ∙ c.requires.level in
     let up = subst (λ (v : Searched). AllByRecursion (IsUpTo v.variables) c.args.clauses.now) (sym c.self.view_is) c.requires.exist in
-    by_result (λ log. KeepsSearch log s.trail s.analysis) c.add_originals.result s.log c.add_originals.new.self (map original c.args.clauses.now) c.add_originals.ensures.ok c.add_originals.ensures.err c.self.invariant (keeps_originals s.log s.trail s.analysis c.args.clauses.now c.self.invariant none up)
+    by_result (λ log. KeepsSearch log s.trail s.analysis × KeepsAttached log s.trail s.propagation s.attached s.refuted) c.add_originals.result s.log c.add_originals.new.self (map original c.args.clauses.now) c.add_originals.ensures.ok c.add_originals.ensures.err c.self.invariant (keeps_originals s.log s.trail s.analysis c.args.clauses.now c.self.invariant.0 none up, attached_lines s.log s.trail s.propagation s.attached s.refuted (map original c.args.clauses.now) c.self.invariant.1)

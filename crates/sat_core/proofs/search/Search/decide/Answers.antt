@@ -1,4 +1,4 @@
-use Rattle.std.proofs.Common.{◌≤◌, sym, subst}
+use Rattle.std.proofs.Common.{◌≤◌, length, sym, subst}
 use Rattle.std.proofs.lemmas.Bool.{iff_false}
 use Rattle.sat_log.specs.Literal.{Literal}
 use Rattle.sat_log.specs.Clause.{Among, IsUnset}
@@ -9,14 +9,15 @@ use Rattle.sat_trail.specs.Trail.{literals}
 use Rattle.sat_trail.specs.Units.{AreQuiet}
 use Rattle.sat_core.specs.Search.{Searched}
 use Rattle.sat_trail.proofs.Levels.{top_length}
+use Rattle.sat_core.proofs.Attaching.{attached_decided}
 use Rattle.sat_core.proofs.Searches.{keeps_decision}
 use Rattle.sat_core.proofs.search.Search.decide.Goals as goal
 
 pub decide-requires-clause-level : goal.decide-requires-clause-level
-decide-requires-clause-level c = top_length c.self.inside.log c.self.inside.trail.entries c.self.invariant.trail_is
+decide-requires-clause-level c = top_length c.self.inside.log c.self.inside.trail.entries c.self.invariant.0.trail_is
 
 pub decide-requires-in-Some-unset-clause-level : goal.decide-requires-in-Some-unset-clause-level
-decide-requires-in-Some-unset-clause-level c = top_length c.self.inside.log c.self.inside.trail.entries c.self.invariant.trail_is
+decide-requires-in-Some-unset-clause-level c = top_length c.self.inside.log c.self.inside.trail.entries c.self.invariant.0.trail_is
 
 pub is_true-requires : goal.is_true-requires
 is_true-requires c =
@@ -34,10 +35,12 @@ invariant_of-self c =
     let quiet = subst (λ (v : Searched). AreQuiet (literals v.entries) (clauses v.log)) (sym c.self.view_is) c.requires.quiet in
     let free : IsUnset (literals s.trail.entries) c.in-Some.literal =
     (c.in-Some.ensures.open_, (λ m. iff_false c.is_true.ensures c.if-is_true.false (subst (Among (literals s.trail.entries)) (sym c.negated.ensures) m))) in
-    keeps_decision s.log s.trail c.decide.new.self s.analysis c.in-Some.literal c.self.invariant free quiet c.decide.ensures.entries c.decide.ensures.variables
+    let all : length s.trail.entries ≤ s.propagation.looked = subst (λ (v : Searched). length v.entries ≤ v.looked) (sym c.self.view_is) c.requires.all in
+    (keeps_decision s.log s.trail c.decide.new.self s.analysis c.in-Some.literal c.self.invariant.0 free quiet c.decide.ensures.entries c.decide.ensures.variables, attached_decided s.log s.trail c.decide.new.self s.propagation s.attached s.refuted c.in-Some.literal c.decide.ensures.variables c.decide.ensures.entries all c.self.invariant.1)
 
 pub invariant_of-self-in-Some-unset : goal.invariant_of-self-in-Some-unset
 invariant_of-self-in-Some-unset c =
     let s = c.self.inside in
     let quiet = subst (λ (v : Searched). AreQuiet (literals v.entries) (clauses v.log)) (sym c.self.view_is) c.requires.quiet in
-    keeps_decision s.log s.trail c.decide-in-Some-unset.new.self s.analysis c.in-Some-unset.literal c.self.invariant c.in-Some-unset.ensures.unset quiet c.decide-in-Some-unset.ensures.entries c.decide-in-Some-unset.ensures.variables
+    let all : length s.trail.entries ≤ s.propagation.looked = subst (λ (v : Searched). length v.entries ≤ v.looked) (sym c.self.view_is) c.requires.all in
+    (keeps_decision s.log s.trail c.decide-in-Some-unset.new.self s.analysis c.in-Some-unset.literal c.self.invariant.0 c.in-Some-unset.ensures.unset quiet c.decide-in-Some-unset.ensures.entries c.decide-in-Some-unset.ensures.variables, attached_decided s.log s.trail c.decide-in-Some-unset.new.self s.propagation s.attached s.refuted c.in-Some-unset.literal c.decide-in-Some-unset.ensures.variables c.decide-in-Some-unset.ensures.entries all c.self.invariant.1)

@@ -7,6 +7,8 @@ use Rattle.sat_trail.specs.Units.{AreDecided}
 use Rattle.sat_core.specs.Search.{Searched, KeepsSearch, AskedFirst, AddsFinal}
 use Rattle.sat_trail.proofs.Trails.{consistent}
 use Rattle.sat_trail.proofs.Levels.{trail_distinct}
+use Rattle.sat_core.specs.Attached.{KeepsAttached}
+use Rattle.sat_core.proofs.Attaching.{attached_line}
 use Rattle.sat_core.proofs.Searches.{by_result}
 use Rattle.sat_core.proofs.Learning.{decided_wanted, none_negated, keeps_marks, keeps_final, adds_final, on_ok}
 use Rattle.sat_core.proofs.search.Search.refute_wanted.Goals as goal
@@ -18,7 +20,7 @@ decided c =
     let s = c.self.inside in
     let false_ = subst (λ (v : Searched). Among (literals v.entries) (negated c.args.wanted)) (sym c.self.view_is) c.requires.false_ in
     let asked = subst (λ (v : Searched). AskedFirst c.args.want.now v.entries) (sym c.self.view_is) c.requires.asked in
-    decided_wanted c.args.want.now s.trail.entries c.args.wanted asked c.requires.wanted (λ m. consistent (literals s.trail.entries) (trail_distinct s.log s.trail.entries c.self.invariant.trail_is) c.args.wanted m false_)
+    decided_wanted c.args.want.now s.trail.entries c.args.wanted asked c.requires.wanted (λ m. consistent (literals s.trail.entries) (trail_distinct s.log s.trail.entries c.self.invariant.0.trail_is) c.args.wanted m false_)
 
 pub refute_wanted-requires-clause-implied : goal.refute_wanted-requires-clause-implied
 refute_wanted-requires-clause-implied c =
@@ -28,9 +30,9 @@ pub invariant_of-self : goal.invariant_of-self
 invariant_of-self c =
     let s = c.self.inside in
     let a = c.refute_wanted.new.self in
-    by_result (λ log. KeepsSearch log s.trail a) c.append_final.result s.log c.append_final.new.log (record { kind = Final; lits = a.lits; hints = a.hints }) c.append_final.ensures.ok c.append_final.ensures.err
-    (keeps_marks s.log s.trail s.analysis a c.self.invariant c.refute_wanted.ensures.state c.refute_wanted.ensures.size)
-    (keeps_final s.log s.trail s.analysis a c.self.invariant c.refute_wanted.ensures.state c.refute_wanted.ensures.size)
+    by_result (λ log. KeepsSearch log s.trail a × KeepsAttached log s.trail s.propagation s.attached s.refuted) c.append_final.result s.log c.append_final.new.log (record { kind = Final; lits = a.lits; hints = a.hints }) c.append_final.ensures.ok c.append_final.ensures.err
+    (keeps_marks s.log s.trail s.analysis a c.self.invariant.0 c.refute_wanted.ensures.state c.refute_wanted.ensures.size, c.self.invariant.1)
+    (keeps_final s.log s.trail s.analysis a c.self.invariant.0 c.refute_wanted.ensures.state c.refute_wanted.ensures.size, attached_line s.log s.trail s.propagation s.attached s.refuted (record { kind = Final; lits = a.lits; hints = a.hints }) c.self.invariant.1)
 
 pub returns-clause-ok : goal.returns-clause-ok
 returns-clause-ok c =

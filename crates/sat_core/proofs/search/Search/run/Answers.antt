@@ -1,15 +1,17 @@
 use Rattle.std.proofs.Common.{◌≡◌, ◌<◌, ◌-◌, ◌^◌, List, length, refl, ap, sym, subst, ◌∙◌, arith}
 use Rattle.std.proofs.lemmas.Bool.{iff_false}
 use Rattle.sat_log.specs.declared.line.LogLine.{LogLine}
+use Rattle.sat_log.specs.Accepted.{IsLog}
+use Rattle.sat_log.specs.Checking.{AreUpTo}
 use Rattle.sat_core.specs.Gained.{gained, conflicts, HasNoOriginal}
 use Rattle.sat_core.specs.Gains.{found, spent, stopped, Gains}
 use Rattle.sat_core.specs.Verdicts.{IsBelow, IsWithin}
 use Rattle.sat_trail.specs.Trail.{places}
 use Rattle.sat_core.specs.Search.{AddsFinal, StepsTo}
 use Rattle.sat_core.specs.declared.search.Step.{Step}
-use Rattle.sat_core.proofs.Runs.{HasLearned, learned_none, within_none, left, all_conflicts, gained_length, none_original, refuted_by, final_no_original, step_gains, step_left, step_within, gains_learned, has_no_final, gains_final, longer_push, final_learned, outcome_err, is_spent}
+use Rattle.sat_core.proofs.Runs.{HasLearned, learned_none, within_none, left, all_conflicts, gained_length, none_original, refuted_by, final_no_original, stays_attached, step_gains, step_left, step_within, gains_learned, has_no_final, gains_final, longer_push, final_learned, outcome_err, is_spent}
 use Rattle.sat_core.proofs.search.Search.run.Goals as goal
-use Rattle.sat_core.proofs.search.Search.run.Goals.{In-No, In-Yes}
+use Rattle.sat_core.proofs.search.Search.run.Goals.{In-No, In-Yes, After-attach}
 
 -- the final line
 refused : (c : In-No) → (c.in-No.id ≡ length c.step-step.new.self.log) × AddsFinal c.args.want.now c.loop-budget.self.log c.step-step.new.self.log
@@ -60,7 +62,7 @@ returns-in_err-step-clause-gains c =
     let fresh = c.learned_lines_are_fresh.ensures start new.log learned.learned_is in
     let few = c.learned_lines_are_few.ensures n start new.log c.lines-lines.ensures.log c.lines-lines.ensures.exist learned.longer learned.learned_is in
     let within = subst (IsWithin c.args.budget) (c.loop-budget.invariant.count ∙ ap (λ (l : List LogLine). conflicts (gained start l)) (sym same)) c.loop-budget.invariant.within in
-    outcome_err (Gains n c.args.budget c.args.want.now start new.log) c.from_residual.result c.from_residual.ensures.0 (gains_learned n c.args.budget c.args.want.now start c.loop-budget.self.log new.log stopped same h c.lines-lines.ensures.log fresh few (has_no_final n c.args.budget c.args.want.now start c.loop-budget.self.log new.log same h, within))
+    outcome_err (Gains n c.args.budget c.args.want.now start new.log) c.from_residual-in_err-step.result c.from_residual-in_err-step.ensures.0 (gains_learned n c.args.budget c.args.want.now start c.loop-budget.self.log new.log stopped same h c.lines-lines.ensures.log fresh few (has_no_final n c.args.budget c.args.want.now start c.loop-budget.self.log new.log same h, within))
 
 pub returns-clause-no_original : goal.returns-clause-no_original
 returns-clause-no_original c = none_original (gained c.args.self.now.log c.loop-budget.self.log) c.loop-budget.invariant.gains.conflict
@@ -106,6 +108,7 @@ loop-budget-preserved c =
       is_log = c.lines-lines.ensures.log;
       exist = c.lines-lines.ensures.exist;
       variables = c.step-step.ensures.variables ∙ c.loop-budget.invariant.variables;
+      attached = stays_attached c.step-step.new.self c.in_ok-step.field-0 c.in-Learned.is c.in_ok-step.ensures.attached;
     }
 
 pub loop-budget-smaller : goal.loop-budget-smaller
@@ -118,18 +121,46 @@ loop-budget-smaller c =
     let less = step_left start c.args.want.now c.loop-budget.self new c.in_ok-step.field-0 (3 ^ new.variables) c.in-Learned.is c.loop-budget.invariant.gains c.in_ok-step.ensures.step (omega (arith, few)) in
     subst (λ n. left (3 ^ n) (conflicts (gained start new.log)) (places n) (length new.entries) < left (3 ^ n) (conflicts (gained start c.loop-budget.self.log)) (places n) (length c.loop-budget.self.entries)) same less
 
+-- the log after the call that attaches is the one before the question
+start_is : (c : After-attach) → c.attach.new.self.log ≡ c.args.self.now.log
+start_is c = c.attach.ensures.log ∙ c.reset.ensures.log
+
 pub loop-budget-init : goal.loop-budget-init
 loop-budget-init c =
     let start = c.args.self.now.log in
-    let h = subst (HasLearned start) (sym c.reset.ensures.log) (learned_none start) in
-    let none : 0 ≡ conflicts (gained start c.reset.new.self.log) =
-    sym (all_conflicts (gained start c.reset.new.self.log) h.conflict ∙ gained_length start c.reset.new.self.log h.longer ∙ omega (arith, ap length c.reset.ensures.log)) in
+    let same = start_is (goal.at.loop-budget-init c).After-attach in
+    let h = subst (HasLearned start) (sym same) (learned_none start) in
+    let none : 0 ≡ conflicts (gained start c.attach.new.self.log) =
+    sym (all_conflicts (gained start c.attach.new.self.log) h.conflict ∙ gained_length start c.attach.new.self.log h.longer ∙ omega (arith, ap length same)) in
     record {
       gains = h;
       count = none;
       within = within_none c.args.budget;
-      asked = c.reset.ensures.asked c.args.want.now;
-      is_log = c.lines-start.ensures.log;
-      exist = c.lines-start.ensures.exist;
-      variables = c.reset.ensures.variables;
+      asked = c.attach.ensures.asked c.args.want.now (c.reset.ensures.asked c.args.want.now);
+      is_log = subst IsLog (sym c.attach.ensures.log) c.lines-start.ensures.log;
+      exist = rw (c.attach.ensures.log, c.attach.ensures.variables) c.lines-start.ensures.exist;
+      variables = c.attach.ensures.variables ∙ c.reset.ensures.variables;
+      attached = c.in_ok-attach.ensures.ok;
     }
+
+pub returns-in_err-attach-clause-no_original : goal.returns-in_err-attach-clause-no_original
+returns-in_err-attach-clause-no_original c =
+    let start = c.args.self.now.log in
+    let same = start_is (goal.at.returns-in_err-attach-clause-no_original c).After-attach in
+    subst (λ (l : List LogLine). HasNoOriginal (gained start l)) (sym same) (none_original (gained start start) (learned_none start).conflict)
+
+pub returns-in_err-attach-clause-gains : goal.returns-in_err-attach-clause-gains
+returns-in_err-attach-clause-gains c =
+    let start = c.args.self.now.log in
+    let same = start_is (goal.at.returns-in_err-attach-clause-gains c).After-attach in
+    let new = c.attach.new.self in
+    let n = new.variables in
+    let learned = learned_none start in
+    let is_log = subst IsLog (sym c.attach.ensures.log) c.lines-start.ensures.log in
+    let exist : AreUpTo n new.log = rw (c.attach.ensures.log, c.attach.ensures.variables) c.lines-start.ensures.exist in
+    let h = subst (HasLearned start) (sym same) learned in
+    let fresh = c.learned_lines_are_fresh.ensures start new.log h.learned_is in
+    let few = c.learned_lines_are_few.ensures n start new.log is_log exist h.longer h.learned_is in
+    let none : 0 ≡ conflicts (gained start start) = sym (all_conflicts (gained start start) learned.conflict ∙ gained_length start start learned.longer ∙ omega arith) in
+    let within = subst (IsWithin c.args.budget) (none ∙ ap (λ (l : List LogLine). conflicts (gained start l)) (sym same)) (within_none c.args.budget) in
+    outcome_err (Gains n c.args.budget c.args.want.now start new.log) c.from_residual.result c.from_residual.ensures.0 (gains_learned n c.args.budget c.args.want.now start start new.log stopped same learned is_log fresh few (has_no_final n c.args.budget c.args.want.now start start new.log same learned, within))

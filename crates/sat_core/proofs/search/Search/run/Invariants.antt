@@ -17,6 +17,7 @@ invariant-loop-budget l = record {
   is_log : IsLog l.self.log;
   exist : AreUpTo l.self.variables l.self.log;
   variables : l.self.variables ≡ l.fn.self.variables;
+  attached : l.self.attached ≡ length l.self.log;
 }
 
 abbrev pub decreases-loop-budget : goal.decreases-loop-budget

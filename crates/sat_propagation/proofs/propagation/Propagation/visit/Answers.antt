@@ -109,7 +109,8 @@ returns-in-Some-clause-standing c =
     let s = stands a c.if-id-eq0.false in
     moved_stands c.args.self.now (record { watched = c.move_watch.new.self; ids = c.self.inside.ids.items; looked = c.self.inside.looked }) c.args.literal c.args.watcher
     (moves (goal.at.returns-in-Some-clause-standing c).After-move_watch) at.0 (c.requires.exact.two c.args.watcher at.0) at.1 c.args.log.now s.clause
-    (subst (λ (i : ℕ). clause_at c.args.log.now i ≡ Some s.clause) (line a) s.named) (c.in-Some.ensures.stands s.clause s.named) c.requires.standing
+    (subst (λ (i : ℕ). clause_at c.args.log.now i ≡ Some s.clause) (line a) s.named) (c.in-Some.ensures.stands s.clause s.named)
+    (λ x m ne e. c.in-Some.ensures.open_.not_other (e ∙ c.other-other.ensures.only x m ne)) c.requires.standing
 
 pub returns-in-Some-clause-rule : goal.returns-in-Some-clause-rule
 unfolding moves

@@ -2,7 +2,7 @@ use Rattle.std.proofs.Common.{◌≡◌, List, length}
 use Rattle.sat_watch.specs.Watched.{watchers}
 use Rattle.sat_trail.specs.Units.{IsTrail, AddsImplied}
 use Rattle.sat_trail.specs.declared.trail.Entry.{Entry}
-use Rattle.sat_propagation.specs.Watching.{AreStanding, KeepsRule, IsPart}
+use Rattle.sat_propagation.specs.Watching.{AreStanding, KeepsRule, KeepsLines, IsPart}
 use Rattle.sat_propagation.proofs.Walks.{Walked, rest_behind}
 use Rattle.sat_propagation.proofs.propagation.Propagation.walk.Given as goal
 
@@ -14,7 +14,7 @@ invariant-loop-watcher l = record {
   trail : IsTrail l.log l.trail.entries;
   implied : AddsImplied l.fn.trail.entries l.trail.entries;
   variables : l.trail.variables ≡ l.fn.trail.variables;
-  lists : length l.self.watched.lists ≡ length l.fn.self.watched.lists;
+  lines : KeepsLines l.fn.self l.self;
   looked : l.self.looked ≡ l.fn.self.looked;
 }
 

@@ -1,0 +1,322 @@
+-- The clauses that a search looks after, when the log, the trail or the watches have changed.
+use Rattle.std.proofs.Common.{◌≡◌, ℕ, zero, suc, ◌+◌, ◌-◌, ◌<◌, ◌≤◌, Bool, true, false, cond, eqb, ltb, ◌⊎◌, inl, inr, List, [], ◌∷◌, ◌++◌, length, take, get_or, ⊎_elim, refl, ap, sym, subst, ◌∙◌, append_assoc, arith}
+use Rattle.std.specs.Prelude.{Option, None, Some, is_some, IfSome, IfNone, option_to_list, slice_get}
+use Rattle.std.specs.Option.{option_and_then}
+use Rattle.std.specs.List.{AllByRecursion}
+use Rattle.std.proofs.lemmas.List.{append-nil, length_push, get_or_push, take_all}
+use Rattle.std.proofs.lemmas.Bool.{cases_lt, le-ltb}
+use Rattle.sat_log.specs.Literal.{Literal, negated}
+use Rattle.sat_log.specs.Clause.{Among, IsFalse, HasDistinctVariables}
+use Rattle.sat_log.specs.Accepted.{hinted, clause_at, clauses}
+use Rattle.sat_log.specs.Learned.{IsTrueUnder}
+use Rattle.sat_log.specs.Checking.{IsUpTo}
+use Rattle.sat_log.specs.declared.line.LogLine.{LogLine}
+use Rattle.sat_log.proofs.ListLemmas.{All-append}
+use Rattle.sat_trail.specs.Trail.{Trailed, literals, top, before, bottom, places}
+use Rattle.sat_trail.specs.Units.{IsConflict, IsQuiet, AreQuiet, AddsImplied}
+use Rattle.sat_trail.specs.declared.trail.Entry.{Entry}
+use Rattle.sat_trail.proofs.Logs.{clauses_more}
+use Rattle.sat_trail.proofs.Growth.{clause_stays}
+use Rattle.sat_trail.proofs.Tables.{place_within}
+use Rattle.sat_trail.proofs.Trails.{before_all}
+use Rattle.sat_trail.proofs.Levels.{among_earlier, before_before}
+use Rattle.sat_propagation.specs.Watching.{Propagated, line_of, StandsFor, KeepsPair, IsReady, IsWatchedFor, KeepsLines, Adds, Serves}
+use Rattle.sat_propagation.proofs.Ready.{none_looked, ready_line, ready_decided, ready_wider, ready_added, ready_restarted, ready_served, added_watched, served_watched, lines_watched, ready_quiet}
+use Rattle.sat_watch.specs.Watched.{Pair, Watched, HasPlace, no_pair, pair_at}
+use Rattle.sat_core.specs.Attached.{IsServed, KeepsAttached, WatchesTwo, Attaches}
+
+-- What is true at level 0.
+
+pub first_more : (e : Entry) (entries : List Entry) (l : Literal) → Among (literals (before 1 entries)) l → Among (literals (before 1 (e ∷ entries))) l
+first_more e entries l m = by_level (ltb e.level 1)
+  where
+    by_level : (b : Bool) → Among (literals (cond b (e ∷ entries) (before 1 entries))) l
+    by_level true = inr (among_earlier 1 entries l m)
+    by_level false = m
+
+pub first_added : (added old : List Entry) (l : Literal) → Among (literals (before 1 old)) l → Among (literals (before 1 (added ++ old))) l
+first_added [] old l m = m
+first_added (e ∷ added) old l m = first_more e (added ++ old) l (first_added added old l m)
+
+pub first_before : (level : ℕ) (entries : List Entry) (l : Literal) → Among (literals (before 1 entries)) l → Among (literals (before 1 (before (level + 1) entries))) l
+first_before level entries l m =
+    subst (λ (es : List Entry). Among (literals es) l) (sym (before_before 1 (level + 1) entries (omega arith))) m
+
+-- all that was true at level 0 still is
+abbrev pub KeepsFirst : List Entry → List Entry → Type 0
+KeepsFirst old new = (l : Literal) → Among (literals (before 1 old)) l → Among (literals (before 1 new)) l
+
+-- What is false among some literals is so among more.
+
+conflict_more : (log : List LogLine) (set more : List Literal) (id : ℕ) → ((l : Literal) → Among set l → Among more l) → IsConflict log set id → IsConflict log more id
+conflict_more log set more id f h = record { clause = h.clause; named = h.named; falsified = all h.clause h.falsified }
+  where
+    all : (c : List Literal) → AllByRecursion (IsFalse set) c → AllByRecursion (IsFalse more) c
+    all [] k = tt
+    all (l ∷ c) k = (f (negated l) k.0, all c k.1)
+
+if_some : (P Q : ℕ → Type 0) (refuted : Option ℕ) → ((id : ℕ) → P id → Q id) → IfSome refuted P → IfSome refuted Q
+if_some P Q None f h = tt
+if_some P Q (Some id) f h = f id h
+
+-- a clause that is known to be false at level 0 is false
+pub refuted_now : (log : List LogLine) (trail : Trailed) (p : Propagated) (attached : ℕ) (refuted : Option ℕ) → KeepsAttached log trail p attached refuted → IfSome refuted (IsConflict log (literals trail.entries))
+refuted_now log trail p attached refuted k =
+    if_some (IsConflict log (literals (before 1 trail.entries))) (IsConflict log (literals trail.entries)) refuted (λ id h. conflict_more log (literals (before 1 trail.entries)) (literals trail.entries) id (λ l m. among_earlier 1 trail.entries l m) h) k.conflict
+
+-- The trail or the watches have changed.
+
+served_more : (old new : List Entry) (p q : Propagated) (refuted : Option ℕ) (id : ℕ) (c : List Literal) → KeepsFirst old new → (IsWatchedFor p id → IsWatchedFor q id) → IsServed old p refuted id c → IsServed new q refuted id c
+served_more old new p q refuted id c first watched (inl w) = inl (watched w)
+served_more old new p q refuted id c first watched (inr (inl t)) = inr (inl (record { literal = t.literal; stands = t.stands; is_set = first t.literal t.is_set }))
+served_more old new p q refuted id c first watched (inr (inr some)) = inr (inr some)
+
+pub attached_more : (log : List LogLine) (old new : Trailed) (p q : Propagated) (attached : ℕ) (refuted : Option ℕ) → KeepsFirst old.entries new.entries → ((id : ℕ) → IsWatchedFor p id → IsWatchedFor q id) → IsReady log new q → KeepsAttached log old p attached refuted → KeepsAttached log new q attached refuted
+attached_more log old new p q attached refuted first watched ready k =
+    record {
+      ready = ready;
+      within = k.within;
+      served = (λ id c below named. served_more old.entries new.entries p q refuted id c first (watched id) (k.served id c below named));
+      conflict = if_some (IsConflict log (literals (before 1 old.entries))) (IsConflict log (literals (before 1 new.entries))) refuted (λ id h. conflict_more log (literals (before 1 old.entries)) (literals (before 1 new.entries)) id first h) k.conflict;
+    }
+
+-- The log has grown.
+
+line_before : (log : List LogLine) (line : LogLine) (i : ℕ) → i < length log → slice_get (log ++ line ∷ []) i ≡ slice_get log i
+line_before [] line i h = absurd (omega arith)
+line_before (x ∷ log) line zero h = refl
+line_before (x ∷ log) line (suc i) h = line_before log line i (omega arith)
+
+pub clause_before : (log : List LogLine) (line : LogLine) (id : ℕ) → id ≤ length log → clause_at (log ++ line ∷ []) id ≡ clause_at log id
+clause_before log line zero h = refl
+clause_before log line (suc i) h = ap (λ o. option_and_then (λ (l : LogLine). hinted l.kind l.lits) (cond (eqb (suc i) 0) None o)) (line_before log line (suc i - 1) (omega arith))
+
+pub attached_line : (log : List LogLine) (trail : Trailed) (p : Propagated) (attached : ℕ) (refuted : Option ℕ) (line : LogLine) → KeepsAttached log trail p attached refuted → KeepsAttached (log ++ line ∷ []) trail p attached refuted
+attached_line log trail p attached refuted line k =
+    record {
+      ready = ready_line log trail p line k.ready;
+      within = omega (arith, k.within, length_push log line);
+      served = (λ id c below named. k.served id c below (sym (clause_before log line id (omega (arith, k.within))) ∙ named));
+      conflict = if_some (IsConflict log (literals (before 1 trail.entries))) (IsConflict (log ++ line ∷ []) (literals (before 1 trail.entries))) refuted (λ id h. record { clause = h.clause; named = clause_stays log line id h.clause h.named; falsified = h.falsified }) k.conflict;
+    }
+
+pub attached_lines : (log : List LogLine) (trail : Trailed) (p : Propagated) (attached : ℕ) (refuted : Option ℕ) (lines : List LogLine) → KeepsAttached log trail p attached refuted → KeepsAttached (log ++ lines) trail p attached refuted
+attached_lines log trail p attached refuted [] k = subst (λ (l : List LogLine). KeepsAttached l trail p attached refuted) (sym (append-nil log)) k
+attached_lines log trail p attached refuted (line ∷ lines) k =
+    subst (λ (l : List LogLine). KeepsAttached l trail p attached refuted) (append_assoc log (line ∷ []) lines) (attached_lines (log ++ line ∷ []) trail p attached refuted lines (attached_line log trail p attached refuted line k))
+
+-- One clause more is served.
+pub attached_next : (log : List LogLine) (trail : Trailed) (p : Propagated) (attached : ℕ) (refuted : Option ℕ) → attached < length log → ((c : List Literal) → clause_at log (attached + 1) ≡ Some c → IsServed trail.entries p refuted (attached + 1) c) → KeepsAttached log trail p attached refuted → KeepsAttached log trail p (attached + 1) refuted
+attached_next log trail p attached refuted below here k =
+    record { ready = k.ready; within = omega arith; served = (λ id c up named. by_id id c up named (cases_lt attached id)); conflict = k.conflict }
+  where
+    by_id : (id : ℕ) (c : List Literal) → id ≤ attached + 1 → clause_at log id ≡ Some c → (attached < id) ⊎ (id ≤ attached) → IsServed trail.entries p refuted id c
+    by_id id c up named (inr earlier) = k.served id c earlier named
+    by_id id c up named (inl later) =
+        let last : id ≡ attached + 1 = omega arith in
+        subst (λ (i : ℕ). IsServed trail.entries p refuted i c) (sym last) (here c (subst (λ (i : ℕ). clause_at log i ≡ Some c) last named))
+
+-- a search without clauses
+pub attached_none : (trail : Trailed) (p : Propagated) → IsReady [] trail p → KeepsAttached [] trail p 0 None
+attached_none trail p ready =
+    record { ready = ready; within = omega arith; served = (λ id c below named. absurd (nothing id c named)); conflict = tt }
+  where
+    nothing : (id : ℕ) (c : List Literal) → clause_at [] id ≡ Some c → ⊥
+    nothing id c e = by_zero (eqb id 0) e
+      where
+        by_zero : (b : Bool) → option_and_then (λ (l : LogLine). hinted l.kind l.lits) (cond b None (slice_get [] (id - 1))) ≡ Some c → ⊥
+        by_zero true e = cc
+        by_zero false e = cc
+
+-- What holds of each clause that an id names holds of each of the clauses.
+
+All-some : (P : List Literal → Type 0) (o : Option (List Literal)) → ((c : List Literal) → o ≡ Some c → P c) → AllByRecursion P (option_to_list o)
+All-some P None h = tt
+All-some P (Some c) h = (h c refl, tt)
+
+All-first : (P : List Literal → Type 0) (log : List LogLine) (n : ℕ) → n ≤ length log → ((i : ℕ) (c : List Literal) → i < length log → clause_at log (i + 1) ≡ Some c → P c) → AllByRecursion P (clauses (take n log))
+All-first P log zero h f = tt
+All-first P log (suc n) h f =
+    let next : suc n ≡ n + 1 = omega arith in
+    let inside : n < length log = omega arith in
+    subst (AllByRecursion P) (sym (ap (λ (m : ℕ). clauses (take m log)) next ∙ clauses_more log n inside))
+    (All-append P (clauses (take n log)) (option_to_list (clause_at log (n + 1))) (All-first P log n (omega arith) f) (All-some P (clause_at log (n + 1)) (λ c e. f n c inside e)))
+
+All-from_named : (P : List Literal → Type 0) (log : List LogLine) → ((i : ℕ) (c : List Literal) → i < length log → clause_at log (i + 1) ≡ Some c → P c) → AllByRecursion P (clauses log)
+All-from_named P log f =
+    subst (λ (lines : List LogLine). AllByRecursion P (clauses lines)) (take_all (length log) log (omega arith)) (All-first P log (length log) (omega arith) f)
+
+-- Where all was looked at, no clause is unit or false.
+pub attached_quiet : (log : List LogLine) (trail : Trailed) (p : Propagated) (attached : ℕ) → attached ≡ length log → length trail.entries ≤ p.looked → KeepsAttached log trail p attached None → AreQuiet (literals trail.entries) (clauses log)
+attached_quiet log trail p attached whole all k = All-from_named (IsQuiet (literals trail.entries)) log (λ i c below named. by_served i c named (k.served (i + 1) c (omega (arith, whole)) named))
+  where
+    first : (o : Option (List Literal)) (c : List Literal) → o ≡ Some c → AreQuiet (literals trail.entries) (option_to_list o) → IsQuiet (literals trail.entries) c
+    first o c e h = (subst (λ (x : Option (List Literal)). AreQuiet (literals trail.entries) (option_to_list x)) e h).0
+
+    by_served : (i : ℕ) (c : List Literal) → clause_at log (i + 1) ≡ Some c → IsServed trail.entries p None (i + 1) c → IsQuiet (literals trail.entries) c
+    by_served i c named (inl w) = first (clause_at log (i + 1)) c named (ready_quiet log trail p (i + 1) k.ready all w)
+    by_served i c named (inr (inl t)) = inl (record { literal = t.literal; stands = t.stands; is_set = among_earlier 1 trail.entries t.literal t.is_set })
+    by_served i c named (inr (inr none)) = absurd cc
+
+-- A call that attaches the clause of an id.
+
+at_first : (entries : List Entry) → top entries ≡ 0 → before 1 entries ≡ entries
+at_first entries none = before_all 0 entries (omega arith)
+
+-- literals became true at level 0, and what was watched still is
+pub attached_implied : (log : List LogLine) (old new : Trailed) (p q : Propagated) (attached : ℕ) (refuted : Option ℕ) → AddsImplied old.entries new.entries → ((id : ℕ) → IsWatchedFor p id → IsWatchedFor q id) → IsReady log new q → KeepsAttached log old p attached refuted → KeepsAttached log new q attached refuted
+attached_implied log old new p q attached refuted a watched ready k =
+    attached_more log old new p q attached refuted (λ x m. subst (λ (es : List Entry). Among (literals (before 1 es)) x) (sym a.same) (first_added a.added old.entries x m)) watched ready k
+
+pub attach_keeps : (log : List LogLine) (old new : Trailed) (p q : Propagated) (attached : ℕ) (refuted : Option ℕ) → attached < length log → top new.entries ≡ 0 → AddsImplied old.entries new.entries → ((id : ℕ) → IsWatchedFor p id → IsWatchedFor q id) → IsReady log new q → Attaches log new.entries q (attached + 1) true → KeepsAttached log old p attached refuted → KeepsAttached log new q (attached + 1) refuted
+attach_keeps log old new p q attached refuted below none a watched ready here k =
+    attached_next log new q attached refuted below (λ c named. by_case c (here c named)) (attached_implied log old new p q attached refuted a watched ready k)
+  where
+    by_case : (c : List Literal) → IsWatchedFor q (attached + 1) ⊎ IsTrueUnder (literals new.entries) c → IsServed new.entries q refuted (attached + 1) c
+    by_case c (inl w) = inl w
+    by_case c (inr t) = inr (inl (record { literal = t.literal; stands = t.stands; is_set = subst (λ (es : List Entry). Among (literals es) t.literal) (sym (at_first new.entries none)) t.is_set }))
+
+pub attach_refutes : (log : List LogLine) (new : Trailed) (q : Propagated) (attached : ℕ) → attached < length log → top new.entries ≡ 0 → IsReady log new q → Attaches log new.entries q (attached + 1) false → KeepsAttached log new q (attached + 1) (Some (attached + 1))
+attach_refutes log new q attached below none ready here =
+    record {
+      ready = ready;
+      within = omega arith;
+      served = (λ id c up named. inr (inr refl));
+      conflict = subst (λ (es : List Entry). IsConflict log (literals es) (attached + 1)) (sym (at_first new.entries none)) here;
+    }
+
+-- Two of a clause's literals are watched, for no line yet.
+
+pub two_watched : (old new : Propagated) (lits : List Literal) (w : ℕ) → WatchesTwo old new lits (Some w) → (a : Literal) × (b : Literal) × (rest : List Literal) × (lits ≡ a ∷ b ∷ rest) × Adds old new a b w
+two_watched old new [] w h = absurd h
+two_watched old new (a ∷ []) w h = absurd h
+two_watched old new (a ∷ b ∷ rest) w h = (a, b, rest, refl, h)
+
+pub none_watched : (old new : Propagated) (lits : List Literal) → WatchesTwo old new lits None → (length lits < 2) × (new ≡ old)
+none_watched old new [] h = (omega arith, h)
+none_watched old new (a ∷ []) h = (omega arith, h)
+none_watched old new (a ∷ b ∷ rest) h = absurd h
+
+pub watches_first : (old new : Propagated) (lits : List Literal) (d : Literal) (w : ℕ) → 2 ≤ length lits → Adds old new (get_or lits 0 d) (get_or lits 1 d) w → WatchesTwo old new lits (Some w)
+watches_first old new [] d w h a = absurd (omega arith)
+watches_first old new (x ∷ []) d w h a = absurd (omega arith)
+watches_first old new (x ∷ y ∷ rest) d w h a = a
+
+pub watches_none : (p : Propagated) (lits : List Literal) → length lits < 2 → WatchesTwo p p lits None
+watches_none p [] h = refl
+watches_none p (a ∷ []) h = refl
+watches_none p (a ∷ b ∷ rest) h = absurd (omega arith)
+
+-- the pair that was added
+pub pair_added : (old new : Propagated) (a b : Literal) (w : ℕ) → Adds old new a b w → pair_at new.watched w ≡ record { first = a; second = b }
+pair_added old new a b w adds =
+    ap (λ (ps : List Pair). get_or ps w no_pair) adds.pairs ∙ get_or_push old.watched.pairs (record { first = a; second = b }) no_pair w (sym adds.number)
+
+-- A decision, propagation, a backjump, a variable more.
+
+pub attached_decided : (log : List LogLine) (old new : Trailed) (p : Propagated) (attached : ℕ) (refuted : Option ℕ) (l : Literal) → new.variables ≡ old.variables → new.entries ≡ record { literal = l; level = top old.entries + 1; reason = None } ∷ old.entries → length old.entries ≤ p.looked → KeepsAttached log old p attached refuted → KeepsAttached log new p attached refuted
+attached_decided log old new p attached refuted l variables same all k =
+    let e : Entry = record { literal = l; level = top old.entries + 1; reason = None } in
+    attached_more log old new p p attached refuted (λ x m. subst (λ (es : List Entry). Among (literals (before 1 es)) x) (sym same) (first_more e old.entries x m)) (λ id h. h) (ready_decided log old new p e variables same refl all k.ready) k
+
+pub attached_propagated : (log : List LogLine) (old new : Trailed) (p q : Propagated) (attached : ℕ) (refuted : Option ℕ) → AddsImplied old.entries new.entries → KeepsLines p q → IsReady log new q → KeepsAttached log old p attached refuted → KeepsAttached log new q attached refuted
+attached_propagated log old new p q attached refuted a lines ready k =
+    attached_implied log old new p q attached refuted a (λ id h. lines_watched p q id lines h) ready k
+
+pub same_watched : (old new : Propagated) → new.watched.pairs ≡ old.watched.pairs → new.ids ≡ old.ids → (id : ℕ) → IsWatchedFor old id → IsWatchedFor new id
+same_watched old new pairs ids id h =
+    let line : line_of new h.watcher ≡ line_of old h.watcher = ap (λ (xs : List ℕ). get_or xs h.watcher 0) ids in
+    record {
+      watcher = h.watcher;
+      used = (omega (arith, h.used.0, ap length pairs), (λ none. h.used.1 (sym line ∙ none)));
+      line = line ∙ h.line;
+    }
+
+pub attached_before : (log : List LogLine) (old new : Trailed) (p q : Propagated) (attached jump : ℕ) (refuted : Option ℕ) → new.entries ≡ before (jump + 1) old.entries → q.watched ≡ p.watched → q.ids ≡ p.ids → IsReady log new q → KeepsAttached log old p attached refuted → KeepsAttached log new q attached refuted
+attached_before log old new p q attached jump refuted same watched ids ready k =
+    attached_more log old new p q attached refuted (λ x m. subst (λ (es : List Entry). Among (literals (before 1 es)) x) (sym same) (first_before jump old.entries x m)) (same_watched p q (ap (λ (w : Watched). w.pairs) watched) ids) ready k
+
+pub attached_wider : (log : List LogLine) (old new : Trailed) (p q : Propagated) (attached : ℕ) (refuted : Option ℕ) → new.entries ≡ old.entries → places new.variables ≤ length q.watched.lists → q.watched.pairs ≡ p.watched.pairs → q.ids ≡ p.ids → q.looked ≡ p.looked → KeepsAttached log old p attached refuted → KeepsAttached log new q attached refuted
+attached_wider log old new p q attached refuted same lists pairs ids looked k =
+    attached_more log old new p q attached refuted (λ x m. subst (λ (es : List Entry). Among (literals (before 1 es)) x) (sym same) m) (same_watched p q pairs ids) (ready_wider log old new p q same lists pairs ids looked k.ready) k
+
+-- there is a list for each of the literals
+pub all_places : (n : ℕ) (w : Watched) (c : List Literal) → IsUpTo n c → places n ≤ length w.lists → AllByRecursion (HasPlace w) c
+all_places n w [] up more = tt
+all_places n w (l ∷ c) up more = (omega (arith, place_within n l up.0, more), all_places n w c up.1 more)
+
+-- the pair that was added is one of those that there are then
+pub watcher_inside : (old new after : Propagated) (lits : List Literal) (watcher : Option ℕ) → WatchesTwo old new lits watcher → after.watched ≡ new.watched → IfSome watcher (λ w. w < length after.watched.pairs)
+watcher_inside old new after lits None h same = tt
+watcher_inside old new after lits (Some w) h same =
+    let two = two_watched old new lits w h in
+    let a = two.0 in
+    let b = two.1 in
+    let adds : Adds old new a b w = two.4 in
+    let size : length after.watched.pairs ≡ length old.watched.pairs + 1 = ap (λ (x : Watched). length x.pairs) same ∙ ap length adds.pairs ∙ length_push old.watched.pairs (record { first = a; second = b }) in
+    omega (arith, size, adds.number)
+
+-- what is not there is absent
+pub none_of : (o : Option ℕ) → is_some o ≡ false → o ≡ None
+none_of None e = refl
+none_of (Some x) e = absurd cc
+
+pub if_none : {P Q : Type 0} (o : Option ℕ) → (P → Q) → IfNone o P → IfNone o Q
+if_none None f h = f h
+if_none (Some x) f h = tt
+
+-- At level 0, where nothing was looked at, any two literals may be watched.
+
+before_zero : (level : ℕ) (entries : List Entry) (l : Literal) → level ≡ 0 → Among (literals (before level entries)) l → ⊥
+before_zero level [] l none m = m
+before_zero level (e ∷ entries) l none m =
+    before_zero level entries l none (subst (λ (b : Bool). Among (literals (cond b (e ∷ entries) (before level entries))) l) (le-ltb e.level level (omega (arith, none))) m)
+
+fresh_pair : (entries : List Entry) (pair : Pair) → top entries ≡ 0 → KeepsPair (bottom 0 entries) entries pair
+fresh_pair entries pair none a b ha hb ne =
+    record {
+      earlier = (λ level most m. absurd (before_zero level entries (negated a) (omega (arith, most, none)) m));
+      now = (λ m. absurd (none_looked entries (negated a) m));
+    }
+
+module _ (log : List LogLine) (t : Trailed) (p0 p1 p2 p3 : Propagated) (lits : List Literal) (w id : ℕ) (watches : WatchesTwo p0 p1 lits (Some w)) (again : p2 ≡ record { watched = p1.watched; ids = p1.ids; looked = 0 }) (serves : Serves p2 p3 w id) where
+  pub two_ready : top t.entries ≡ 0 → clause_at log id ≡ Some lits → HasDistinctVariables lits → IsReady log t p0 → IsReady log t p3
+  two_ready none named distinct ready =
+      ready_served p2 p3 w id serves log t (subst (StandsFor log id) (sym pair_is) stands) keeps (subst (IsReady log t) (sym again) (ready_restarted log t p1 (ready_added p0 p1 a b w adds log t ready)))
+    where
+      two : (a : Literal) × (b : Literal) × (rest : List Literal) × (lits ≡ a ∷ b ∷ rest) × Adds p0 p1 a b w
+      two = two_watched p0 p1 lits w watches
+
+      a : Literal
+      a = two.0
+
+      b : Literal
+      b = two.1
+
+      adds : Adds p0 p1 a b w
+      adds = two.4
+
+      pair_is : pair_at p2.watched w ≡ record { first = a; second = b }
+      pair_is = ap (λ (p : Propagated). pair_at p.watched w) again ∙ pair_added p0 p1 a b w adds
+
+      both : HasDistinctVariables (a ∷ b ∷ two.2)
+      both = subst HasDistinctVariables two.3 distinct
+
+      stands : StandsFor log id (record { first = a; second = b })
+      stands =
+          record {
+            clause = a ∷ b ∷ two.2;
+            named = named ∙ ap Some two.3;
+            stands = (λ l m. ⊎_elim (λ x. inl x) (λ x. inr (inl x)) m);
+            apart = (λ same. both.0.0 (sym (ap (λ (l : Literal). l.var) same)));
+          }
+
+      keeps : KeepsPair (bottom p2.looked t.entries) t.entries (pair_at p2.watched w)
+      keeps = subst (λ (n : ℕ). KeepsPair (bottom n t.entries) t.entries (pair_at p2.watched w)) (sym (ap (λ (p : Propagated). p.looked) again)) (fresh_pair t.entries (pair_at p2.watched w) none)
+
+  pub two_keeps_watched : (i : ℕ) → IsWatchedFor p0 i → IsWatchedFor p3 i
+  two_keeps_watched i h =
+      let two = two_watched p0 p1 lits w watches in
+      let adds : Adds p0 p1 two.0 two.1 w = two.4 in
+      let free : line_of p2 w ≡ 0 = ap (λ (p : Propagated). line_of p w) again ∙ adds.unused in
+      served_watched p2 p3 w id serves i free (same_watched p1 p2 (ap (λ (p : Propagated). p.watched.pairs) again) (ap (λ (p : Propagated). p.ids) again) i (added_watched p0 p1 two.0 two.1 w adds i h))

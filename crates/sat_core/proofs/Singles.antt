@@ -1,0 +1,47 @@
+-- Clauses that have one literal at most.
+use Rattle.std.proofs.Common.{◌≡◌, ◌≢◌, ℕ, ◌<◌, inl, inr, List, [], ◌∷◌, length, get_or, refl, sym, subst, ◌∙◌, arith}
+use Rattle.std.specs.Prelude.{Some}
+use Rattle.sat_log.specs.Literal.{Literal, negated}
+use Rattle.sat_log.specs.Clause.{Among, IsFalsified}
+use Rattle.sat_log.specs.Accepted.{clause_at}
+use Rattle.sat_log.specs.Learned.{IsTrueUnder}
+use Rattle.sat_log.specs.declared.line.LogLine.{LogLine}
+use Rattle.sat_trail.specs.Units.{IsReason}
+
+-- one that has none is false
+pub none_falsified : (set c : List Literal) → length c ≡ 0 → IsFalsified set c
+none_falsified set [] h = tt
+none_falsified set (a ∷ c) h = absurd (omega (arith, h))
+
+module _ (set c : List Literal) (l : Literal) (short : length c < 2) (first : l ≡ get_or c 0 l) where
+  pub one_falsified : Among set (negated l) → IsFalsified set c
+  one_falsified m = by_list c short first
+    where
+      by_list : (d : List Literal) → length d < 2 → l ≡ get_or d 0 l → IsFalsified set d
+      by_list [] h e = tt
+      by_list (a ∷ []) h e = (subst (λ (k : Literal). Among set (negated k)) e m, tt)
+      by_list (a ∷ b ∷ d) h e = absurd (omega (arith, h))
+
+  pub one_stands : length c ≢ 0 → Among c l
+  one_stands some = by_list c some first
+    where
+      by_list : (d : List Literal) → length d ≢ 0 → l ≡ get_or d 0 l → Among d l
+      by_list [] ne e = absurd (ne refl)
+      by_list (a ∷ d) ne e = inl (sym e)
+
+  pub one_true : length c ≢ 0 → Among set l → IsTrueUnder set c
+  one_true some m = record { literal = l; stands = one_stands some; is_set = m }
+
+  pub one_reason : (log : List LogLine) (id : ℕ) → length c ≢ 0 → clause_at log id ≡ Some c → IsReason log set id l
+  one_reason log id some named =
+      record {
+        clause = c;
+        named = named;
+        implies = record { stands = one_stands some; others_false = (λ k m ne. absurd (ne (only c short first k m))) };
+      }
+    where
+      only : (d : List Literal) → length d < 2 → l ≡ get_or d 0 l → (k : Literal) → Among d k → k ≡ l
+      only [] h e k m = absurd m
+      only (a ∷ []) h e k (inl same) = sym (e ∙ same)
+      only (a ∷ []) h e k (inr m) = absurd m
+      only (a ∷ b ∷ d) h e k m = absurd (omega (arith, h))
