@@ -2,7 +2,7 @@
 use Rattle.std.specs.Prelude.{◌≡◌, ℕ, ◌<◌, Bool, List, length, IsTrue, Decides}
 use Rattle.smv_tree.specs.Trees.{Tree}
 use Rattle.ltl_form.specs.Nodes.{AtomsWithin}
-use Rattle.ltl_form.specs.Rows.{told, row_at}
+use Rattle.ltl_form.specs.Rows.{told_at, row_at}
 use Rattle.ltl_form.specs.declared.node.NnfNode.{NnfNode}
 
 -- each row of a table has so many states
@@ -18,7 +18,8 @@ pub record Covers (table : List (List Bool)) (states : ℕ) (nodes : List NnfNod
 abbrev pub DecidesAtomsBelow :
     ℕ → List (List Bool) → (ℕ → Tree) → (Tree → ℕ → Type 0) → Type 0
 DecidesAtomsBelow states table names holds =
-    (a p : ℕ) → a < length table → p < states → Decides (told (row_at table a) p) (holds (names a) p)
+    (a p : ℕ) → a < length table → p < states →
+    Decides (told_at table a p) (holds (names a) p)
 
 -- where a test passes
 abbrev pub passes : (Tree → ℕ → Bool) → Tree → ℕ → Type 0

@@ -2,7 +2,7 @@ use Rattle.std.proofs.Common.{◌≡◌, ◌+◌, ◌++◌, ◌∷◌, [], Bool,
 use Rattle.std.specs.Prelude.{Some, IfOk, OnOk}
 use Rattle.smv_tree.specs.Models.{Claim, atom, no, after, always, some_time, both}
 use Rattle.ltl_form.specs.declared.node.NnfNode.TheVariants as node
-use Rattle.ltl_form.specs.Nodes.{Says, AtomWithin, AtomsWithin}
+use Rattle.ltl_form.specs.Nodes.{Says, AtomWithin}
 use Rattle.ltl_form.specs.Normal.{normal}
 use Rattle.ltl_form.specs.Numbered.{claim_of, AtomsBelow}
 use Rattle.ltl_form.specs.declared.numbered.NumberedFormula.{NumberedFormula}
@@ -118,12 +118,6 @@ returns-then-is_comparison-clause-count t c = λ names.
     let shape : claim_of names c.args.f.now ≡ both c.in-Two.op a b = ap (claim_of names) c.in-Two.is ∙ both_of names c.in-Two.op (sym c.deref-then-is_comparison.ensures) (sym c.deref-then-is_comparison-2.ensures) in
     let size : nodes_of_one (claim_of names c.args.f.now) ≡ nodes_of_two a + nodes_of_two b + 3 = ap nodes_of_one shape ∙ ap (λ (x : Bool). cond x (nodes_of_two a + nodes_of_two b + 3) (nodes_of_one a + nodes_of_one b + 1)) (sym c.is_comparison.ensures ∙ c.if-is_comparison.true) in
     longer c.compare.result (length c.compare.new.draft) (length c.put_two-then-is_comparison.new.draft) (length c.args.draft.now) 3 (nodes_of_one (claim_of names c.args.f.now)) c.compare.ensures.count (omega (arith, size, c.in_ok-first-in-Two.ensures.count names, c.in_ok-second-in-Two.ensures.count names))
-
-pub returns-in-Atom-clause-atoms : goal.returns-in-Atom-clause-atoms
-returns-in-Atom-clause-atoms t c = λ m below old. c.add.ensures.atoms m (subst (AtomsBelow m) c.in-Atom.is below) old
-
-pub returns-in-Not-clause-atoms : goal.returns-in-Not-clause-atoms
-returns-in-Not-clause-atoms t c = λ m below old. c.put_one.ensures.atoms m (subst (AtomsBelow m) (sym c.deref.ensures) (subst (AtomsBelow m) c.in-Not.is below)) old
 
 pub returns-in_ok-part-in-Next-clause-atoms : goal.returns-in_ok-part-in-Next-clause-atoms
 returns-in_ok-part-in-Next-clause-atoms t c = λ m below old.

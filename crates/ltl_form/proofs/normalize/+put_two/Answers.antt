@@ -1,9 +1,9 @@
-use Rattle.std.proofs.Common.{◌≡◌, ◌+◌, ◌<◌, true, false, cond, length, sym, ap, subst, ◌∙◌, arith}
+use Rattle.std.proofs.Common.{◌≡◌, ◌+◌, true, false, cond, length, sym, ap, subst, ◌∙◌, arith}
 use Rattle.smv_tree.specs.Models.{Claim, atom, no, after, always, some_time}
 use Rattle.ltl_form.specs.declared.node.NnfNode.TheVariants as node
 use Rattle.ltl_form.specs.declared.numbered.NumberedFormula.{NumberedFormula}
 use Rattle.ltl_form.specs.Nodes as says
-use Rattle.ltl_form.specs.Nodes.{Says, AtomsWithin}
+use Rattle.ltl_form.specs.Nodes.{Says}
 use Rattle.ltl_form.specs.Normal.{normal}
 use Rattle.ltl_form.specs.Numbered.{claim_of, AtomsBelow}
 use Rattle.ltl_form.specs.Drafts.{Extends, SaysTwo}
@@ -124,11 +124,6 @@ returns-in_ok-negated-in-Two-clause-count t c = λ names.
     let o = c.in-Two.op in
     let size : nodes_of_two (claim_of names c.args.f.now) ≡ nodes_of_two a + nodes_of_two b + cond (compares o) 6 2 = ap nodes_of_two (ap (claim_of names) c.in-Two.is ∙ both_of names o (sym c.deref-in-Two.ensures) (sym c.deref-in-Two-2.ensures)) in
     omega (arith, size, twice (compares o), c.in_ok-first-in-Two.ensures.count names, c.in_ok-second-in-Two.ensures.count names, c.in_ok-plain-in-Two.ensures.count, c.in_ok-negated-in-Two.ensures.count)
-
-pub returns-in_ok-negated-in-Atom-clause-atoms : goal.returns-in_ok-negated-in-Atom-clause-atoms
-returns-in_ok-negated-in-Atom-clause-atoms t c = λ m below old.
-    let it : c.in-Atom.a < m = subst (AtomsBelow m) c.in-Atom.is below in
-    c.in_ok-negated-in-Atom.ensures.atoms m it (c.in_ok-plain-in-Atom.ensures.atoms m it old)
 
 pub returns-in_ok-part-in-Not-clause-atoms : goal.returns-in_ok-part-in-Not-clause-atoms
 returns-in_ok-part-in-Not-clause-atoms t c = λ m below old. c.in_ok-part-in-Not.ensures.atoms m (subst (AtomsBelow m) (sym c.deref.ensures) (subst (AtomsBelow m) c.in-Not.is below)) old
