@@ -13,8 +13,8 @@ use Rattle.gates.specs.Valuation.{value_of, values_of, IsValuation}
 use Rattle.gates.proofs.Meaning.{value_of-negated}
 use Rattle.ltl_form.specs.declared.node.NnfNode.{NnfNode}
 use Rattle.ltl_form.specs.Rows.{told, row_at, turned, ahead_turned, around_turned, IsRow}
-use Rattle.ltl_form.specs.Nodes.{node_at}
-use Rattle.ltl_form.specs.Tables.{AtomWithin, Covers}
+use Rattle.ltl_form.specs.Nodes.{node_at, AtomWithin}
+use Rattle.ltl_form.specs.Tables.{Covers}
 use Rattle.smv_meaning.specs.Places.{next_place}
 use Rattle.smv_meaning.proofs.Lassos.{next_last, next_other}
 use Rattle.std.proofs.Math.ListN.{get_or-map as get_or-map-default}

@@ -5,8 +5,7 @@ use Rattle.gates.specs.declared.node.Node.{Node}
 use Rattle.gates.specs.Nodes.{Belongs}
 use Rattle.gates.specs.Valuation.{values_of}
 use Rattle.ltl_form.specs.declared.node.NnfNode.{NnfNode}
-use Rattle.ltl_form.specs.Nodes.{node_at}
-use Rattle.ltl_form.specs.Tables.{AtomWithin}
+use Rattle.ltl_form.specs.Nodes.{AtomsWithin}
 
 -- the literal of a place
 abbrev pub lit_at : List Literal → ℕ → Literal
@@ -33,7 +32,12 @@ RowBelongs nodes row = (p : ℕ) → p < length row → Belongs nodes (lit_at ro
 abbrev pub RowsBelong : List Node → List (List Literal) → Type 0
 RowsBelong nodes rows = (a : ℕ) → a < length rows → RowBelongs nodes (lits_at rows a)
 
--- a table has a literal for each of so many states and each of its atoms, and one for each atom that the nodes name
-pub record CoversLits (table : List (List Literal)) (states : ℕ) (nodes : List NnfNode) : Type 0 where
-  pub states_each : (a : ℕ) → a < length table → length (lits_at table a) ≡ states
-  pub atoms : (i : ℕ) → i < length nodes → AtomWithin (length table) (node_at nodes i)
+-- each row of a table has so many states
+abbrev pub StatesEach : ℕ → List (List Literal) → Type 0
+StatesEach states table = (a : ℕ) → a < length table → length (lits_at table a) ≡ states
+
+-- a table has a row of so many states for each atom, and one for each that the nodes name
+pub record CoversLits (table : List (List Literal)) (states : ℕ)
+    (nodes : List NnfNode) : Type 0 where
+  pub states_each : StatesEach states table
+  pub atoms : AtomsWithin (length table) nodes

@@ -6,11 +6,12 @@ ghost use Rattle.gates.specs.Valuation.{value_of, values_of, IsValuation};
 ghost use Rattle.smv_tree.specs.Trees.{Tree};
 ghost use Rattle.smv_tree.specs.Models.{Claim};
 ghost use Rattle.smv_meaning.specs.LassoTruth.{TrueAt};
-ghost use Rattle.ltl_form.specs.Nodes.{Says, PartsWithin, IsOrdered, root};
+ghost use Rattle.ltl_form.specs.Nodes.{Says, PartsWithin, AtomWithin, IsOrdered, root};
 ghost use Rattle.ltl_form.specs.Rows.{lasso_value, IsRow, AreRows, LassoTells};
-ghost use Rattle.ltl_form.specs.Tables.{AtomWithin, DecidesAtomsBelow, passes};
+ghost use Rattle.ltl_form.specs.Tables.{DecidesAtomsBelow, passes};
 ghost use Rattle.smv_meaning.specs.Places.{next_place};
-ghost use Rattle.ltl_bmc.specs.Circuits.{lit_at, lits_at, told_rows, RowBelongs, RowsBelong, CoversLits};
+ghost use Rattle.ltl_bmc.specs.Circuits.{lit_at, lits_at, told_rows, RowBelongs, RowsBelong};
+ghost use Rattle.ltl_bmc.specs.Circuits.{StatesEach, CoversLits};
 
 use crate::row::LitRow;
 use crate::sweeps::{around, around_whole, join_rows, shift, turn};
@@ -44,6 +45,7 @@ pub fn encode_loop(
     ensures rows { IfOk result (λ a. (values : List Bool) → IsValuation g.new values →
         LassoTells k l (told_rows values atoms.now) n.now 0 (value_of values a)) }
     ensures belongs { IfOk result (Belongs g.new) }
+    ensures atoms_belong { RowsBelong g.new atoms.now }
     ensures grows { Grows g.old g.new }
     ensures conjunctions { AddsConjunctions g.old g.new }
 {
@@ -100,7 +102,7 @@ fn loop_row(
     requires places { (i : ℕ) → i < length rows.now.items → length (lits_at rows.now.items i) ≡ k }
     requires belong { RowsBelong g.old rows.now.items }
     requires atom { AtomWithin (length t.now) node }
-    requires states { (a : ℕ) → a < length t.now → length (lits_at t.now a) ≡ k + 1 }
+    requires states { StatesEach (k + 1) t.now }
     requires table { RowsBelong g.old t.now }
     ensures places { IfOk result (λ row. length row ≡ k) }
     ensures values { IfOk result (λ row. (values : List Bool) → IsValuation g.new values →

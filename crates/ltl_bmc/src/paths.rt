@@ -6,10 +6,11 @@ ghost use Rattle.gates.specs.Valuation.{value_of, values_of, IsValuation};
 ghost use Rattle.smv_tree.specs.Trees.{Tree};
 ghost use Rattle.smv_tree.specs.Models.{Claim};
 ghost use Rattle.smv_meaning.specs.SettledTruth.{Settled};
-ghost use Rattle.ltl_form.specs.Nodes.{Says, PartsWithin, IsOrdered, root};
+ghost use Rattle.ltl_form.specs.Nodes.{Says, PartsWithin, AtomWithin, IsOrdered, root};
 ghost use Rattle.ltl_form.specs.Rows.{short_value, IsRow, AreRows, ShortTells};
-ghost use Rattle.ltl_form.specs.Tables.{AtomWithin, DecidesAtomsBelow, passes};
-ghost use Rattle.ltl_bmc.specs.Circuits.{lits_at, told_rows, RowBelongs, RowsBelong, CoversLits};
+ghost use Rattle.ltl_form.specs.Tables.{DecidesAtomsBelow, passes};
+ghost use Rattle.ltl_bmc.specs.Circuits.{lits_at, told_rows, RowBelongs, RowsBelong};
+ghost use Rattle.ltl_bmc.specs.Circuits.{StatesEach, CoversLits};
 
 use crate::literal::constant;
 use crate::row::LitRow;
@@ -41,6 +42,7 @@ pub fn encode_short(
     ensures rows { IfOk result (λ a. (values : List Bool) → IsValuation g.new values →
         ShortTells k (told_rows values atoms.now) n.now 0 (value_of values a)) }
     ensures belongs { IfOk result (Belongs g.new) }
+    ensures atoms_belong { RowsBelong g.new atoms.now }
     ensures grows { Grows g.old g.new }
     ensures conjunctions { AddsConjunctions g.old g.new }
 {
@@ -96,7 +98,7 @@ fn path_row(
         k + 1 }
     requires belong { RowsBelong g.old rows.now.items }
     requires atom { AtomWithin (length t.now) node }
-    requires states { (a : ℕ) → a < length t.now → length (lits_at t.now a) ≡ k + 1 }
+    requires states { StatesEach (k + 1) t.now }
     requires table { RowsBelong g.old t.now }
     ensures places { IfOk result (λ row. length row ≡ k + 1) }
     ensures values { IfOk result (λ row. (values : List Bool) → IsValuation g.new values →

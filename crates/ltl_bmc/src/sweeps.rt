@@ -1,6 +1,7 @@
 #![tactic(auto, using(crate::proofs::Literals::circuits))]
 
-ghost use Rattle.std.specs.Prelude.{◌≡◌, ℕ, ◌+◌, ◌<◌, ◌≤◌, Bool, List, true, false, not, ◌&&◌, ◌||◌, length, IfOk, OnOk};
+ghost use Rattle.std.specs.Prelude.{◌≡◌, ℕ, ◌+◌, ◌<◌, ◌≤◌, Bool, List, true};
+ghost use Rattle.std.specs.Prelude.{false, not, ◌&&◌, ◌||◌, length, IfOk, OnOk};
 ghost use Rattle.gates.specs.Nodes.{Grows, AddsConjunctions, Belongs};
 ghost use Rattle.gates.specs.Valuation.{value_of, values_of, IsValuation};
 ghost use Rattle.smv_meaning.specs.Sweeps.{ahead};

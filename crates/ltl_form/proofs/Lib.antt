@@ -3,3 +3,4 @@ pub mod Truth
 pub mod Normals
 pub mod Steps
 pub mod Drafting
+pub mod Atoms

@@ -12,10 +12,10 @@ use Rattle.smv_meaning.proofs.Lassos.{next_below}
 use Rattle.smv_meaning.proofs.Sweeping.{around_truth, before_truth, up_to_truth}
 use Rattle.ltl_form.specs.declared.node.NnfNode.{NnfNode}
 use Rattle.ltl_form.specs.declared.node.NnfNode.TheVariants as node
-use Rattle.ltl_form.specs.Nodes.{Says, node_at, root}
+use Rattle.ltl_form.specs.Nodes.{Says, AtomWithin, node_at, root}
 use Rattle.ltl_form.specs.Nodes as says
 use Rattle.ltl_form.specs.Rows.{told, row_at, lasso_value, short_value, AreRows, LassoTells, ShortTells}
-use Rattle.ltl_form.specs.Tables.{AtomWithin, Covers, DecidesAtomsBelow}
+use Rattle.ltl_form.specs.Tables.{Covers, DecidesAtomsBelow}
 
 always_true : Decides true ⊤
 always_true = (λ e. tt, λ t. refl)

@@ -5,7 +5,8 @@ use Rattle.smv_tree.specs.Models.{Claim}
 use Rattle.smv_tree.specs.declared.formula.FormOp.{FormOp}
 use Rattle.smv_tree.specs.declared.formula.FormOp.TheVariants as op
 use Rattle.ltl_form.specs.declared.node.NnfNode.{NnfNode}
-use Rattle.ltl_form.specs.declared.node.NnfNode.TheVariants.{And, Or, Until, Releases, Always, Eventually}
+use Rattle.ltl_form.specs.declared.node.NnfNode.TheVariants.{And, Or, Until, Releases}
+use Rattle.ltl_form.specs.declared.node.NnfNode.TheVariants.{Always, Eventually}
 use Rattle.ltl_form.specs.Nodes.{Says}
 use Rattle.ltl_form.specs.Normal.{normal}
 

@@ -4,7 +4,7 @@ use Rattle.smv_tree.specs.Models.{Claim, atom, no, after, always, some_time, bot
 use Rattle.smv_tree.specs.declared.formula.FormOp.{FormOp}
 use Rattle.smv_tree.specs.declared.formula.FormOp.TheVariants as op
 
--- an operator that compares two truths: its normal forms have each part and the negation of each part
+-- an operator that compares two truths: its normal forms have each part and the negation of each
 abbrev pub compares : FormOp → Bool
 compares op.Xor = true
 compares op.Xnor = true
@@ -49,4 +49,5 @@ nodes_of_one (no f) = nodes_of_one f
 nodes_of_one (after f) = nodes_of_one f + 1
 nodes_of_one (always f) = nodes_of_one f + 1
 nodes_of_one (some_time f) = nodes_of_one f + 1
-nodes_of_one (both o f g) = if compares o then nodes_of_two f + nodes_of_two g + 3 else nodes_of_one f + nodes_of_one g + 1
+nodes_of_one (both o f g) =
+    if compares o then nodes_of_two f + nodes_of_two g + 3 else nodes_of_one f + nodes_of_one g + 1

@@ -1,5 +1,5 @@
 ghost use Rattle.std.specs.Prelude.{◌≡◌, ℕ, ◌<◌, [], ◌∷◌, ◌++◌, if◌then◌else◌, length, IfOk, OnOk};
-ghost use Rattle.ltl_form.specs.Nodes.{PartsWithin};
+ghost use Rattle.ltl_form.specs.Nodes.{PartsWithin, AtomWithin, AtomsWithin};
 ghost use Rattle.ltl_form.specs.Drafts.{always_node};
 
 use crate::nnf::Nnf;
@@ -40,6 +40,8 @@ impl Draft {
         requires { PartsWithin (length self.old) node }
         ensures added { OnOk result (self.new ≡ self.old ++ node ∷ []) }
         ensures number { IfOk result (λ n. n ≡ length self.old) }
+        ensures atoms { (m : ℕ) → AtomWithin m node → AtomsWithin m self.old →
+            OnOk result (AtomsWithin m self.new) }
     {
         let number = self.nodes.len() as u64;
         self.nodes.push(node)?;

@@ -1,7 +1,7 @@
-ghost use Rattle.std.specs.Prelude.{◌≡◌, ℕ, ◌+◌, ◌<◌, true, false, if◌then◌else◌, length, IfOk, OnOk};
+ghost use Rattle.std.specs.Prelude.{◌≡◌, ℕ, ◌+◌, ◌<◌, true, if◌then◌else◌, length, IfOk, OnOk};
 ghost use Rattle.smv_tree.specs.Trees.{Tree};
 ghost use Rattle.smv_tree.specs.Models.{Claim, both};
-ghost use Rattle.ltl_form.specs.Nodes.{Says};
+ghost use Rattle.ltl_form.specs.Nodes.{Says, AtomsWithin};
 ghost use Rattle.ltl_form.specs.Normal.{normal};
 ghost use Rattle.ltl_form.specs.Sizes.{compares};
 ghost use Rattle.ltl_form.specs.Drafts.{Extends, SaysTwo, left_negated, joined_node, equal_asked};
@@ -63,6 +63,7 @@ pub(crate) fn compare(
         IfOk result (λ n. Says names draft.new n (normal negated (both op f g))) }
     ensures last { IfOk result (λ n. n + 1 ≡ length draft.new) }
     ensures extends { OnOk result (Extends draft.old draft.new) }
+    ensures atoms { (m : ℕ) → AtomsWithin m draft.old → OnOk result (AtomsWithin m draft.new) }
     ensures count { OnOk result (length draft.new ≡ length draft.old + 3) }
 {
     let equal = asks_equal(op, negated);
@@ -89,6 +90,7 @@ pub(crate) fn combine(
         IfOk result (λ n. Says names draft.new n (normal negated (both op f g))) }
     ensures last { IfOk result (λ n. n + 1 ≡ length draft.new) }
     ensures extends { OnOk result (Extends draft.old draft.new) }
+    ensures atoms { (m : ℕ) → AtomsWithin m draft.old → OnOk result (AtomsWithin m draft.new) }
     ensures count { OnOk result (length draft.new ≡ length draft.old +
         (if compares op then 3 else 1)) }
 {

@@ -3,9 +3,9 @@ ghost use Rattle.smv_tree.specs.Trees.{Tree};
 ghost use Rattle.smv_tree.specs.Models.{Claim};
 ghost use Rattle.smv_meaning.specs.Places.{next_place};
 ghost use Rattle.smv_meaning.specs.LassoTruth.{TrueAt};
-ghost use Rattle.ltl_form.specs.Nodes.{Says, PartsWithin, IsOrdered, root};
+ghost use Rattle.ltl_form.specs.Nodes.{Says, PartsWithin, AtomWithin, IsOrdered, root};
 ghost use Rattle.ltl_form.specs.Rows.{told, row_at, lasso_value, IsRow, AreRows, LassoTells};
-ghost use Rattle.ltl_form.specs.Tables.{AtomWithin, Covers, DecidesAtomsBelow, passes};
+ghost use Rattle.ltl_form.specs.Tables.{StatesEach, Covers, DecidesAtomsBelow, passes};
 
 use crate::nnf::Nnf;
 use crate::node::NnfNode;
@@ -13,7 +13,8 @@ use crate::row::{Row, around, around_whole};
 use crate::table::Table;
 use std::alloc::{AllocError, Global};
 
-/// Whether a formula is true at a place of the lasso that goes from state `k - 1` back to state `l`.
+/// Whether a formula is true at a place of the lasso that goes from state `k - 1` back to state
+/// `l`.
 ///
 /// Each node's row of values is made once, in at most two sweeps over the places.
 ///
@@ -29,8 +30,8 @@ pub fn lasso_truth(
     requires start { l < k }
     requires place { at < k }
     requires table { Covers t.now (k + 1) n.now }
-    ensures truth { (names : ℕ → Tree) (holds : Tree → ℕ → Bool) (f : Claim) → Says names n.now (root n.now) f →
-        DecidesAtomsBelow k t.now names (passes holds) →
+    ensures truth { (names : ℕ → Tree) (holds : Tree → ℕ → Bool) (f : Claim) →
+        Says names n.now (root n.now) f → DecidesAtomsBelow k t.now names (passes holds) →
         IfOk result (λ b. Decides b (TrueAt k l (passes holds) f at)) }
     ensures rows { IfOk result (LassoTells k l t.now n.now at) }
 {
@@ -71,9 +72,9 @@ fn lasso_row(
 ) -> Result<Row, AllocError>
     requires start { l < k }
     requires parts { PartsWithin (length rows.now.items) node }
-    requires places { (i : ℕ) → i < length rows.now.items → length (row_at rows.now.items i) ≡ k }
+    requires places { StatesEach k rows.now.items }
     requires atom { AtomWithin (length t.now) node }
-    requires states { (a : ℕ) → a < length t.now → length (row_at t.now a) ≡ k + 1 }
+    requires states { StatesEach (k + 1) t.now }
     ensures { IfOk result (IsRow k (lasso_value k l t.now rows.now.items node)) }
 {
     match node {
@@ -91,7 +92,8 @@ fn lasso_row(
 /// Where a part holds at the next place, which after the last one is the start of the loop.
 fn next(alloc: Global, part: &Row, l: usize) -> Result<Row, AllocError>
     requires { l < length part.now }
-    ensures { IfOk result (IsRow (length part.now) (λ p. told part.now (next_place (length part.now) l p))) }
+    ensures { IfOk result (IsRow (length part.now)
+        (λ p. told part.now (next_place (length part.now) l p))) }
 {
     part.shifted(alloc, part.get(l))
 }

@@ -4,7 +4,8 @@ ghost use Rattle.ltl_form.specs.Nodes.{IsOrdered};
 use crate::node::NnfNode;
 use std::marker::Model;
 
-/// A formula in negation normal form: at least one node, each naming earlier ones; the last is the formula.
+/// A formula in negation normal form: at least one node, each naming earlier ones; the last is the
+/// formula.
 #[derive(Drop)]
 pub struct Nnf {
     nodes: Vec<NnfNode>,

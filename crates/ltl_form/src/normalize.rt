@@ -1,9 +1,9 @@
-ghost use Rattle.std.specs.Prelude.{◌≡◌, ℕ, ◌+◌, ◌*◌, ◌<◌, ◌≤◌, true, false, not, if◌then◌else◌, length, IfOk, OnOk};
+ghost use Rattle.std.specs.Prelude.{◌≡◌, ℕ, ◌+◌, ◌*◌, ◌<◌, ◌≤◌, length, IfOk, OnOk};
 ghost use Rattle.smv_tree.specs.Trees.{Tree};
 ghost use Rattle.smv_tree.specs.Models.{Claim, both};
-ghost use Rattle.ltl_form.specs.Nodes.{Says, root};
+ghost use Rattle.ltl_form.specs.Nodes.{Says, AtomsWithin, root};
 ghost use Rattle.ltl_form.specs.Normal.{normal};
-ghost use Rattle.ltl_form.specs.Numbered.{claim_of};
+ghost use Rattle.ltl_form.specs.Numbered.{claim_of, AtomsBelow};
 ghost use Rattle.ltl_form.specs.Sizes.{compares, size, comparisons, nodes_of_one, nodes_of_two};
 ghost use Rattle.ltl_form.specs.Drafts.{Extends, SaysTwo};
 
@@ -22,6 +22,7 @@ use std::alloc::{AllocError, Global};
 pub fn to_nnf(alloc: Global, f: &NumberedFormula, negated: bool) -> Result<Nnf, AllocError>
     ensures says { (names : ℕ → Tree) → IfOk result (λ n. Says names n (root n) (normal negated
         (claim_of names f.now))) }
+    ensures atoms { (m : ℕ) → AtomsBelow m f.now → IfOk result (AtomsWithin m) }
     ensures count { (names : ℕ → Tree) → IfOk result (λ n. length n ≡
         nodes_of_one (claim_of names f.now)) }
     ensures linear { (names : ℕ → Tree) → IfOk result (λ n.
@@ -41,6 +42,8 @@ fn put_one(draft: &mut Draft, f: &NumberedFormula, negated: bool) -> Result<u64,
         (claim_of names f.now))) }
     ensures last { IfOk result (λ n. n + 1 ≡ length draft.new) }
     ensures extends { OnOk result (Extends draft.old draft.new) }
+    ensures atoms { (m : ℕ) → AtomsBelow m f.now → AtomsWithin m draft.old →
+        OnOk result (AtomsWithin m draft.new) }
     ensures count { (names : ℕ → Tree) → OnOk result (length draft.new ≡
         length draft.old + nodes_of_one (claim_of names f.now)) }
 {
@@ -79,6 +82,8 @@ fn put_two(draft: &mut Draft, f: &NumberedFormula) -> Result<Sides, AllocError>
     ensures plain { IfOk result (λ s. s.plain < length draft.new) }
     ensures negated { IfOk result (λ s. s.negated < length draft.new) }
     ensures extends { OnOk result (Extends draft.old draft.new) }
+    ensures atoms { (m : ℕ) → AtomsBelow m f.now → AtomsWithin m draft.old →
+        OnOk result (AtomsWithin m draft.new) }
     ensures count { (names : ℕ → Tree) → OnOk result (length draft.new ≡
         length draft.old + nodes_of_two (claim_of names f.now)) }
 {

@@ -1,4 +1,5 @@
-ghost use Rattle.std.specs.Prelude.{◌≡◌, ℕ, ◌+◌, ◌<◌, ◌≤◌, true, false, not, ◌&&◌, ◌||◌, length, slice_set, IfOk};
+ghost use Rattle.std.specs.Prelude.{◌≡◌, ℕ, ◌+◌, ◌<◌, ◌≤◌, true, false, not, ◌&&◌, ◌||◌};
+ghost use Rattle.std.specs.Prelude.{length, slice_set, IfOk};
 ghost use Rattle.smv_meaning.specs.Sweeps.{ahead};
 ghost use Rattle.ltl_form.specs.Rows.{told, turned, ahead_turned, around_turned};
 
@@ -62,7 +63,8 @@ impl Row {
     ) -> Result<Row, AllocError>
         requires { places ≤ length self.now }
         ensures places { IfOk result (λ row. length row ≡ places) }
-        ensures values { (p : ℕ) → p < places → IfOk result (λ row. told row p ≡ turned negated (told self.now p)) }
+        ensures values { (p : ℕ) → p < places → IfOk result (λ row.
+            told row p ≡ turned negated (told self.now p)) }
     {
         let mut row = Row::filled(alloc, places, false)?;
         for p in 0..places {
@@ -75,7 +77,8 @@ impl Row {
     pub(crate) fn both(&self, alloc: Global, other: &Row) -> Result<Row, AllocError>
         requires { length other.now ≡ length self.now }
         ensures places { IfOk result (λ row. length row ≡ length self.now) }
-        ensures values { (p : ℕ) → p < length self.now → IfOk result (λ row. told row p ≡ (told self.now p && told other.now p)) }
+        ensures values { (p : ℕ) → p < length self.now → IfOk result (λ row.
+            told row p ≡ (told self.now p && told other.now p)) }
     {
         let mut row = Row::filled(alloc, self.len(), false)?;
         for p in 0..self.len() {
@@ -88,7 +91,8 @@ impl Row {
     pub(crate) fn either(&self, alloc: Global, other: &Row) -> Result<Row, AllocError>
         requires { length other.now ≡ length self.now }
         ensures places { IfOk result (λ row. length row ≡ length self.now) }
-        ensures values { (p : ℕ) → p < length self.now → IfOk result (λ row. told row p ≡ (told self.now p || told other.now p)) }
+        ensures values { (p : ℕ) → p < length self.now → IfOk result (λ row.
+            told row p ≡ (told self.now p || told other.now p)) }
     {
         let mut row = Row::filled(alloc, self.len(), false)?;
         for p in 0..self.len() {
@@ -101,7 +105,8 @@ impl Row {
     pub(crate) fn shifted(&self, alloc: Global, last: bool) -> Result<Row, AllocError>
         requires { 0 < length self.now }
         ensures places { IfOk result (λ row. length row ≡ length self.now) }
-        ensures values { (p : ℕ) → p + 1 < length self.now → IfOk result (λ row. told row p ≡ told self.now (p + 1)) }
+        ensures values { (p : ℕ) → p + 1 < length self.now → IfOk result (λ row.
+            told row p ≡ told self.now (p + 1)) }
         ensures last { IfOk result (λ row. (p : ℕ) → p + 1 ≡ length self.now → told row p ≡ last) }
     {
         let mut row = Row::filled(alloc, self.len(), last)?;
@@ -112,15 +117,17 @@ impl Row {
     }
 }
 
-/// Writes from the last place down to `from` whether `second` holds at this place or a later one, and
-/// `first` at each place before that; or the dual of it. What comes after the last place is given.
+/// Writes from the last place down to `from` whether `second` holds at this place or a later one,
+/// and `first` at each place before that; or the dual of it. What comes after the last place is
+/// given.
 pub(crate) fn sweep(row: &mut Row, first: &Row, second: &Row, dual: bool, after: bool, from: usize)
     requires first { length first.now ≡ length row.old }
     requires second { length second.now ≡ length row.old }
     requires from { from ≤ length row.old }
     ensures places { length row.new ≡ length row.old }
     ensures values { (p : ℕ) → from ≤ p → p < length row.old →
-        told row.new p ≡ ahead_turned dual (length row.old) (told first.now) (told second.now) after p }
+        told row.new p ≡
+        ahead_turned dual (length row.old) (told first.now) (told second.now) after p }
 {
     let mut value = after;
     let mut p = row.len();
@@ -133,7 +140,8 @@ pub(crate) fn sweep(row: &mut Row, first: &Row, second: &Row, dual: bool, after:
 
 /// One step of a sweep.
 fn step(first: bool, second: bool, value: bool, dual: bool) -> bool
-    ensures { result ≡ turned dual (turned dual second || (turned dual first && turned dual value)) }
+    ensures { result ≡
+        turned dual (turned dual second || (turned dual first && turned dual value)) }
 {
     if dual {
         second && (first || value)
@@ -154,7 +162,8 @@ pub(crate) fn around(
     requires start { start < length second.now }
     ensures places { IfOk result (λ row. length row ≡ length second.now) }
     ensures values { (p : ℕ) → p < length second.now → IfOk result (λ row.
-        told row p ≡ around_turned dual (length second.now) start (told first.now) (told second.now) p) }
+        told row p ≡
+        around_turned dual (length second.now) start (told first.now) (told second.now) p) }
 {
     let mut row = Row::filled(alloc, second.len(), dual)?;
     sweep(&mut row, first, second, dual, dual, start);
@@ -164,7 +173,6 @@ pub(crate) fn around(
 }
 
 /// `around` with all places as the first.
-
 pub(crate) fn around_whole(
     alloc: Global,
     second: &Row,
@@ -174,7 +182,8 @@ pub(crate) fn around_whole(
     requires { start < length second.now }
     ensures places { IfOk result (λ row. length row ≡ length second.now) }
     ensures values { (p : ℕ) → p < length second.now → IfOk result (λ row.
-        told row p ≡ around_turned dual (length second.now) start (λ _. not dual) (told second.now) p) }
+        told row p ≡
+        around_turned dual (length second.now) start (λ _. not dual) (told second.now) p) }
 {
     let whole = Row::filled(alloc, second.len(), !dual)?;
     around(alloc, &whole, second, dual, start)
@@ -207,7 +216,8 @@ pub(crate) fn along_both(alloc: Global, first: &Row, second: &Row) -> Result<Row
     requires { length first.now ≡ length second.now }
     ensures places { IfOk result (λ row. length row ≡ length second.now) }
     ensures values { (p : ℕ) → p < length second.now → IfOk result (λ row.
-        told row p ≡ ahead (length second.now) (told second.now) (λ q. told first.now q && told second.now q) false p) }
+        told row p ≡ ahead (length second.now) (told second.now)
+        (λ q. told first.now q && told second.now q) false p) }
 {
     let joint = first.both(alloc, second)?;
     along(alloc, second, &joint)

@@ -2,9 +2,9 @@ ghost use Rattle.std.specs.Prelude.{◌≡◌, ℕ, ◌+◌, ◌^◌, ◌<◌, �
 ghost use Rattle.smv_tree.specs.Trees.{Tree};
 ghost use Rattle.smv_tree.specs.Models.{Claim};
 ghost use Rattle.smv_meaning.specs.SettledTruth.{Settled};
-ghost use Rattle.ltl_form.specs.Nodes.{Says, PartsWithin, IsOrdered, root};
+ghost use Rattle.ltl_form.specs.Nodes.{Says, PartsWithin, AtomWithin, IsOrdered, root};
 ghost use Rattle.ltl_form.specs.Rows.{row_at, short_value, IsRow, AreRows, ShortTells};
-ghost use Rattle.ltl_form.specs.Tables.{AtomWithin, Covers, DecidesAtomsBelow, passes};
+ghost use Rattle.ltl_form.specs.Tables.{StatesEach, Covers, DecidesAtomsBelow, passes};
 
 use crate::nnf::Nnf;
 use crate::node::NnfNode;
@@ -12,14 +12,15 @@ use crate::row::{Row, along, along_both, along_whole};
 use crate::table::Table;
 use std::alloc::{AllocError, Global};
 
-/// Whether the states 0 to `k` of a path settle that a formula is true at a place, whatever comes after them.
+/// Whether the states 0 to `k` of a path settle that a formula is true at a place, whatever comes
+/// after them.
 ///
 /// Each node's row of values is made once, in at most one sweep over the places.
 pub fn short_truth(alloc: Global, n: &Nnf, t: &Table, k: u32, at: u32) -> Result<bool, AllocError>
     requires place { at ≤ k }
     requires table { Covers t.now (k + 1) n.now }
-    ensures truth { (names : ℕ → Tree) (holds : Tree → ℕ → Bool) (f : Claim) → Says names n.now (root n.now) f →
-        DecidesAtomsBelow (k + 1) t.now names (passes holds) →
+    ensures truth { (names : ℕ → Tree) (holds : Tree → ℕ → Bool) (f : Claim) →
+        Says names n.now (root n.now) f → DecidesAtomsBelow (k + 1) t.now names (passes holds) →
         IfOk result (λ b. Decides b (Settled (passes holds) k f true at)) }
     ensures rows { IfOk result (ShortTells k t.now n.now at) }
 {
@@ -53,9 +54,9 @@ fn short_row(
 ) -> Result<Row, AllocError>
     requires last { k < 2 ^ 32 }
     requires parts { PartsWithin (length rows.now.items) node }
-    requires places { (i : ℕ) → i < length rows.now.items → length (row_at rows.now.items i) ≡ k + 1 }
+    requires places { StatesEach (k + 1) rows.now.items }
     requires atom { AtomWithin (length t.now) node }
-    requires states { (a : ℕ) → a < length t.now → length (row_at t.now a) ≡ k + 1 }
+    requires states { StatesEach (k + 1) t.now }
     ensures { IfOk result (IsRow (k + 1) (short_value k t.now rows.now.items node)) }
 {
     match node {

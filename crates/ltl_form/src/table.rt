@@ -1,5 +1,6 @@
 ghost use Rattle.std.specs.Prelude.{◌≡◌, ℕ, ◌<◌, false, length, slice_set, IfOk};
-ghost use Rattle.ltl_form.specs.Rows.{told, row_at};
+ghost use Rattle.ltl_form.specs.Rows.{told_at, row_at};
+ghost use Rattle.ltl_form.specs.Tables.{StatesEach};
 
 use crate::row::Row;
 use std::alloc::{AllocError, Global};
@@ -23,8 +24,9 @@ impl Table {
     /// A table in which no atom holds in any state.
     pub fn new(alloc: Global, states: u32, atoms: u64) -> Result<Table, AllocError>
         ensures atoms { IfOk result (λ t. length t ≡ atoms) }
-        ensures states { IfOk result (λ t. (a : ℕ) → a < atoms → length (row_at t a) ≡ states) }
-        ensures none { IfOk result (λ t. (a p : ℕ) → a < atoms → p < states → told (row_at t a) p ≡ false) }
+        ensures states { IfOk result (StatesEach states) }
+        ensures none { IfOk result (λ t. (a p : ℕ) → a < atoms → p < states →
+            told_at t a p ≡ false) }
     {
         let mut rows = Vec::new(alloc);
         for _atom in 0..atoms {
@@ -37,7 +39,10 @@ impl Table {
     pub fn set(&mut self, state: u32, atom: u64, v: bool)
         requires atom { atom < length self.old }
         requires state { state < length (row_at self.old atom) }
-        ensures { self.new ≡ slice_set self.old atom (slice_set (row_at self.old atom) state v) }
+        ensures value { self.new ≡
+            slice_set self.old atom (slice_set (row_at self.old atom) state v) }
+        ensures atoms { length self.new ≡ length self.old }
+        ensures states { (n : ℕ) → StatesEach n self.old → StatesEach n self.new }
     {
         let row = &mut self.rows[atom as usize];
         row.set(state as usize, v);

@@ -7,8 +7,7 @@ use Rattle.smv_meaning.specs.Places.{next_place}
 use Rattle.smv_meaning.specs.Sweeps.{around}
 use Rattle.smv_meaning.proofs.Lassos.{next_below}
 use Rattle.ltl_form.specs.declared.node.NnfNode.{NnfNode}
-use Rattle.ltl_form.specs.Nodes.{PartsWithin}
-use Rattle.ltl_form.specs.Tables.{AtomWithin}
+use Rattle.ltl_form.specs.Nodes.{PartsWithin, AtomWithin}
 use Rattle.ltl_form.specs.Rows.{told, turned, around_turned, lasso_value, IsRow}
 use Rattle.ltl_bmc.specs.Circuits.{lit_at, lits_at, told_rows, RowBelongs}
 use Rattle.ltl_bmc.proofs.Literals.{or-gates}

@@ -5,8 +5,7 @@ use Rattle.gates.specs.Literal.{Literal}
 use Rattle.gates.specs.Valuation.{values_of, IsValuation}
 use Rattle.smv_meaning.specs.Sweeps.{ahead, along, along_both}
 use Rattle.ltl_form.specs.declared.node.NnfNode.{NnfNode}
-use Rattle.ltl_form.specs.Nodes.{PartsWithin}
-use Rattle.ltl_form.specs.Tables.{AtomWithin}
+use Rattle.ltl_form.specs.Nodes.{PartsWithin, AtomWithin}
 use Rattle.ltl_form.specs.Rows.{told, turned, short_value, IsRow}
 use Rattle.ltl_bmc.specs.Circuits.{lits_at, told_rows, RowBelongs}
 use Rattle.ltl_bmc.proofs.Literals.{or-gates}

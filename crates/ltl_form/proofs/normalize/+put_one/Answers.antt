@@ -1,14 +1,15 @@
-use Rattle.std.proofs.Common.{◌≡◌, ◌+◌, ◌++◌, ◌∷◌, [], Bool, cond, length, refl, sym, ap, subst, ◌∙◌, arith}
+use Rattle.std.proofs.Common.{◌≡◌, ◌+◌, ◌++◌, ◌∷◌, [], Bool, not, cond, length, refl, sym, ap, subst, ◌∙◌, arith}
 use Rattle.std.specs.Prelude.{Some, IfOk, OnOk}
 use Rattle.smv_tree.specs.Models.{Claim, atom, no, after, always, some_time, both}
 use Rattle.ltl_form.specs.declared.node.NnfNode.TheVariants as node
-use Rattle.ltl_form.specs.Nodes.{Says}
+use Rattle.ltl_form.specs.Nodes.{Says, AtomWithin}
 use Rattle.ltl_form.specs.Normal.{normal}
-use Rattle.ltl_form.specs.Numbered.{claim_of}
+use Rattle.ltl_form.specs.Numbered.{claim_of, AtomsBelow}
 use Rattle.ltl_form.specs.declared.numbered.NumberedFormula.{NumberedFormula}
 use Rattle.ltl_form.specs.Drafts.{left_negated}
 use Rattle.ltl_form.specs.Sizes.{nodes_of_one, nodes_of_two}
 use Rattle.ltl_form.proofs.Drafting.{says_more, says_atom, says_after, says_always, says_some_time, says_joined, normal_no, says_on, both_on, added_says, added_count, both_of, longer}
+use Rattle.ltl_form.proofs.Atoms.{always_atom, joined_atom}
 use Rattle.ltl_form.proofs.normalize.+put_one.Goals as goal
 
 pub returns-in-Atom-clause-says : goal.returns-in-Atom-clause-says
@@ -117,3 +118,32 @@ returns-then-is_comparison-clause-count t c = λ names.
     let shape : claim_of names c.args.f.now ≡ both c.in-Two.op a b = ap (claim_of names) c.in-Two.is ∙ both_of names c.in-Two.op (sym c.deref-then-is_comparison.ensures) (sym c.deref-then-is_comparison-2.ensures) in
     let size : nodes_of_one (claim_of names c.args.f.now) ≡ nodes_of_two a + nodes_of_two b + 3 = ap nodes_of_one shape ∙ ap (λ (x : Bool). cond x (nodes_of_two a + nodes_of_two b + 3) (nodes_of_one a + nodes_of_one b + 1)) (sym c.is_comparison.ensures ∙ c.if-is_comparison.true) in
     longer c.compare.result (length c.compare.new.draft) (length c.put_two-then-is_comparison.new.draft) (length c.args.draft.now) 3 (nodes_of_one (claim_of names c.args.f.now)) c.compare.ensures.count (omega (arith, size, c.in_ok-first-in-Two.ensures.count names, c.in_ok-second-in-Two.ensures.count names))
+
+pub returns-in_ok-part-in-Next-clause-atoms : goal.returns-in_ok-part-in-Next-clause-atoms
+returns-in_ok-part-in-Next-clause-atoms t c = λ m below old.
+    c.add-in-Next.ensures.atoms m tt
+    (c.in_ok-part-in-Next.ensures.atoms m (subst (AtomsBelow m) (sym c.deref-in-Next.ensures) (subst (AtomsBelow m) c.in-Next.is below)) old)
+
+pub returns-in_ok-part-in-Always-clause-atoms : goal.returns-in_ok-part-in-Always-clause-atoms
+returns-in_ok-part-in-Always-clause-atoms t c = λ m below old.
+    c.add-in-Always.ensures.atoms m (subst (AtomWithin m) (sym c.throughout.ensures) (always_atom m c.args.negated c.in_ok-part-in-Always.part))
+    (c.in_ok-part-in-Always.ensures.atoms m (subst (AtomsBelow m) (sym c.deref-in-Always.ensures) (subst (AtomsBelow m) c.in-Always.is below)) old)
+
+pub returns-in_ok-part-in-Eventually-clause-atoms : goal.returns-in_ok-part-in-Eventually-clause-atoms
+returns-in_ok-part-in-Eventually-clause-atoms t c = λ m below old.
+    c.add-in-Eventually.ensures.atoms m (subst (AtomWithin m) (sym c.throughout-in-Eventually.ensures) (always_atom m (not c.args.negated) c.in_ok-part-in-Eventually.part))
+    (c.in_ok-part-in-Eventually.ensures.atoms m (subst (AtomsBelow m) (sym c.deref-in-Eventually.ensures) (subst (AtomsBelow m) c.in-Eventually.is below)) old)
+
+pub returns-in_ok-second-in-Two-2-clause-atoms : goal.returns-in_ok-second-in-Two-2-clause-atoms
+returns-in_ok-second-in-Two-2-clause-atoms t c = λ m below old.
+    let parts = subst (AtomsBelow m) c.in-Two.is below in
+    c.add-in-Two.ensures.atoms m (subst (AtomWithin m) (sym c.join.ensures) (joined_atom m c.in-Two.op c.args.negated c.in_ok-first-in-Two-2.first c.in_ok-second-in-Two-2.second))
+    (c.in_ok-second-in-Two-2.ensures.atoms m (subst (AtomsBelow m) (sym c.deref-in-Two-2.ensures) parts.1)
+    (c.in_ok-first-in-Two-2.ensures.atoms m (subst (AtomsBelow m) (sym c.deref-in-Two.ensures) parts.0) old))
+
+pub returns-then-is_comparison-clause-atoms : goal.returns-then-is_comparison-clause-atoms
+returns-then-is_comparison-clause-atoms t c = λ m below old.
+    let parts = subst (AtomsBelow m) c.in-Two.is below in
+    c.compare.ensures.atoms m
+    (c.in_ok-second-in-Two.ensures.atoms m (subst (AtomsBelow m) (sym c.deref-then-is_comparison-2.ensures) parts.1)
+    (c.in_ok-first-in-Two.ensures.atoms m (subst (AtomsBelow m) (sym c.deref-then-is_comparison.ensures) parts.0) old))

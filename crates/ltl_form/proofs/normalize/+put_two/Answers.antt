@@ -5,7 +5,7 @@ use Rattle.ltl_form.specs.declared.numbered.NumberedFormula.{NumberedFormula}
 use Rattle.ltl_form.specs.Nodes as says
 use Rattle.ltl_form.specs.Nodes.{Says}
 use Rattle.ltl_form.specs.Normal.{normal}
-use Rattle.ltl_form.specs.Numbered.{claim_of}
+use Rattle.ltl_form.specs.Numbered.{claim_of, AtomsBelow}
 use Rattle.ltl_form.specs.Drafts.{Extends, SaysTwo}
 use Rattle.ltl_form.specs.Sizes.{compares, nodes_of_two}
 use Rattle.ltl_form.proofs.Drafting.{says_on, both_on, both_of, two_extend, two_longer, two_said, twice}
@@ -124,3 +124,28 @@ returns-in_ok-negated-in-Two-clause-count t c = λ names.
     let o = c.in-Two.op in
     let size : nodes_of_two (claim_of names c.args.f.now) ≡ nodes_of_two a + nodes_of_two b + cond (compares o) 6 2 = ap nodes_of_two (ap (claim_of names) c.in-Two.is ∙ both_of names o (sym c.deref-in-Two.ensures) (sym c.deref-in-Two-2.ensures)) in
     omega (arith, size, twice (compares o), c.in_ok-first-in-Two.ensures.count names, c.in_ok-second-in-Two.ensures.count names, c.in_ok-plain-in-Two.ensures.count, c.in_ok-negated-in-Two.ensures.count)
+
+pub returns-in_ok-part-in-Not-clause-atoms : goal.returns-in_ok-part-in-Not-clause-atoms
+returns-in_ok-part-in-Not-clause-atoms t c = λ m below old. c.in_ok-part-in-Not.ensures.atoms m (subst (AtomsBelow m) (sym c.deref.ensures) (subst (AtomsBelow m) c.in-Not.is below)) old
+
+pub returns-in_ok-negated-in-Next-clause-atoms : goal.returns-in_ok-negated-in-Next-clause-atoms
+returns-in_ok-negated-in-Next-clause-atoms t c = λ m below old.
+    c.in_ok-negated-in-Next.ensures.atoms m tt (c.in_ok-plain-in-Next.ensures.atoms m tt
+    (c.in_ok-part-in-Next.ensures.atoms m (subst (AtomsBelow m) (sym c.deref-in-Next.ensures) (subst (AtomsBelow m) c.in-Next.is below)) old))
+
+pub returns-in_ok-negated-in-Always-clause-atoms : goal.returns-in_ok-negated-in-Always-clause-atoms
+returns-in_ok-negated-in-Always-clause-atoms t c = λ m below old.
+    c.in_ok-negated-in-Always.ensures.atoms m tt (c.in_ok-plain-in-Always.ensures.atoms m tt
+    (c.in_ok-part-in-Always.ensures.atoms m (subst (AtomsBelow m) (sym c.deref-in-Always.ensures) (subst (AtomsBelow m) c.in-Always.is below)) old))
+
+pub returns-in_ok-negated-in-Eventually-clause-atoms : goal.returns-in_ok-negated-in-Eventually-clause-atoms
+returns-in_ok-negated-in-Eventually-clause-atoms t c = λ m below old.
+    c.in_ok-negated-in-Eventually.ensures.atoms m tt (c.in_ok-plain-in-Eventually.ensures.atoms m tt
+    (c.in_ok-part-in-Eventually.ensures.atoms m (subst (AtomsBelow m) (sym c.deref-in-Eventually.ensures) (subst (AtomsBelow m) c.in-Eventually.is below)) old))
+
+pub returns-in_ok-negated-in-Two-clause-atoms : goal.returns-in_ok-negated-in-Two-clause-atoms
+returns-in_ok-negated-in-Two-clause-atoms t c = λ m below old.
+    let parts = subst (AtomsBelow m) c.in-Two.is below in
+    c.in_ok-negated-in-Two.ensures.atoms m (c.in_ok-plain-in-Two.ensures.atoms m
+    (c.in_ok-second-in-Two.ensures.atoms m (subst (AtomsBelow m) (sym c.deref-in-Two-2.ensures) parts.1)
+    (c.in_ok-first-in-Two.ensures.atoms m (subst (AtomsBelow m) (sym c.deref-in-Two.ensures) parts.0) old)))
