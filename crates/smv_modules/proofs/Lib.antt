@@ -4,3 +4,4 @@ pub mod Reached
 pub mod Counting
 pub mod Listing
 pub mod Rows
+pub mod Contained

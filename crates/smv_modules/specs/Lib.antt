@@ -8,3 +8,4 @@ pub mod Limits
 pub mod Told
 pub mod Nodes
 pub mod Listed
+pub mod Contained

@@ -3,8 +3,9 @@
 //! whether the modules that `main` reaches refer to modules that are there.
 //!
 //! Each pass has the list of its faults in `specs`, and answers the first of them. Where all is right, the
-//! instances of the model are listed.
+//! instances of the model are listed. That needs that no module contains itself, which `first_contained` tells.
 
+mod cycles;
 mod example;
 mod instances;
 mod laws;
@@ -13,6 +14,7 @@ mod nodes;
 mod references;
 mod scope;
 
+pub use cycles::first_contained;
 pub use example::names_are_declared_twice;
 pub use instances::{Instance, Instances};
 pub use laws::doubled_names_are_declared_again;

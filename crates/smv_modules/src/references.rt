@@ -151,7 +151,7 @@ fn module_fault(
 }
 
 /// The numbers of the main module and of those that it reaches.
-fn reached_numbers(
+pub(crate) fn reached_numbers(
     alloc: Global,
     p: &Program,
     numbers: &Numbers,
