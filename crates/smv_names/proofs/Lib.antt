@@ -2,3 +2,4 @@ pub mod Entering
 pub mod Gaining
 pub mod Rows
 pub mod Members
+pub mod Unknowns

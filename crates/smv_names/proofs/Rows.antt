@@ -25,7 +25,7 @@ arm_names_behind (d ∷ bs) b =
     ∙ (ap (λ r. names_in d.0 ++ r) (sym (append_assoc (names_in d.1) (names_in_arms (arms bs)) (names_in b.0 ++ names_in b.1)))
     ∙ sym (append_assoc (names_in d.0) (names_in d.1 ++ names_in_arms (arms bs)) (names_in b.0 ++ names_in b.1)))
 
-branch_parts : (b : Branch) → branch_trees b ≡ (expr_tree b.condition, expr_tree b.value)
+pub branch_parts : (b : Branch) → branch_trees b ≡ (expr_tree b.condition, expr_tree b.value)
 branch_parts b = fold_out-Branch Tree (Tree × Tree) expr_step branch_step b
 
 module _ {B : Type 0} (f : List (List ℕ) → B) (old now new : List B) where

@@ -3,3 +3,4 @@ pub mod Entries
 pub mod SymbolSets
 pub mod Branches
 pub mod Members
+pub mod Unknown

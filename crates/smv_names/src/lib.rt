@@ -1,6 +1,7 @@
 #![tactic(auto)]
 //! What the names of a model are, by tables that are made once: the parameters and the items of each
-//! module, and the symbols of all enumerations; and what the names of an expression lead to.
+//! module, and the symbols of all enumerations; what the names of an expression lead to, and the first
+//! name of an expression or a formula that is not known.
 //!
 //! The first of a name counts, as `smv_meaning` has it, and a look-up costs no more than the name's
 //! length.
@@ -11,6 +12,7 @@ mod parameters;
 mod references;
 mod symbols;
 mod table;
+mod unknown;
 
 pub use declared::Declared;
 pub use laws::tables_tell_members;
@@ -18,3 +20,4 @@ pub use parameters::parameter_numbers;
 pub use references::{Lookup, with_references};
 pub use symbols::{Symbols, symbols_of};
 pub use table::{Table, item_table};
+pub use unknown::{Known, unknown_in, unknown_in_formula};
