@@ -5,3 +5,4 @@ pub mod Slots
 pub mod Rows
 pub mod Moments
 pub mod SlotPaths
+pub mod Programs

@@ -5,8 +5,13 @@ use Rattle.smv_tree.specs.declared.value.Value.{Value}
 use Rattle.smv_tree.specs.declared.value.Value.TheVariants as value
 use Rattle.smv_meaning.specs.Operators.{counted}
 use Rattle.smv_values.specs.Answers.{kept}
-use Rattle.smv_flat.specs.Fitting.{fitting_count}
-use Rattle.smv_flat.specs.Counts.{count_on, count_values}
+use Rattle.smv_flat.specs.Fitting.{fitting_count, truth_of}
+use Rattle.smv_flat.specs.Counts.{count_more, count_values}
+
+-- all operands, from a count on
+abbrev pub count_on : Option ℕ → List (List Value) → Option ℕ
+count_on n [] = n
+count_on n (vs ∷ lists) = count_on (count_more n (truth_of vs)) lists
 
 nothing_counted : (lists : List (List Value)) → count_on None lists ≡ None
 nothing_counted [] = refl

@@ -98,3 +98,7 @@ model_of l = record {
   steps_to = map constraint_of l.steps_to.items;
   specs = map property_of l.specs.items;
 }
+
+-- the bodies of its definitions
+abbrev pub bodies_of : FlatModel → List Flat
+bodies_of flat = map (λ d. d.body) flat.defs

@@ -4,7 +4,7 @@ use Rattle.smv_tree.specs.declared.value.Value.{Value}
 use Rattle.smv_meaning.specs.FlatTrees.{Flat, Numbers}
 use Rattle.smv_meaning.specs.FlatLines.{def_values}
 use Rattle.smv_flat.specs.Fitting.{fitting_eval}
-use Rattle.smv_flat.specs.FlatModels.{FlatModel, FlatDefinition}
+use Rattle.smv_flat.specs.FlatModels.{FlatModel, FlatDefinition, bodies_of}
 use Rattle.smv_flat.specs.Slots.{slots_of}
 
 -- the values of variables and of definitions
@@ -15,7 +15,7 @@ numbers_with slots defs = record { slots = slots; defs = defs }
 abbrev pub flat_numbers : FlatModel → List Value → List Value → Numbers
 flat_numbers flat state input =
     numbers_with (slots_of flat.vars state input)
-    (def_values (slots_of flat.vars state input) [] (map (λ d. d.body) flat.defs))
+    (def_values (slots_of flat.vars state input) [] (bodies_of flat))
 
 -- definitions whose values are known, and one more, if the program can hold its values
 abbrev pub one_more : List (List Value) → List (List Value) → Flat → Option (List (List Value))

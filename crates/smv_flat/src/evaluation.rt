@@ -4,9 +4,7 @@ ghost use Rattle.smv_flat.specs.Lists.{Answers};
 ghost use Rattle.smv_flat.specs.Fitting.{all_fitting, each_fitting, first_fitting, fitting_count, fitting_eval};
 
 use crate::copies::{many, push_copies, span};
-use crate::nodes::{
-    both, counted, integer, named, one_of, selected_of, tallied, truth_of, widened_of,
-};
+use crate::nodes::{apply_one, both, counted, integer, named, select, tallied, truth_of, widen};
 use crate::value_list::answered;
 use crate::{EvalFault, FlatBranch, FlatExpr, Moment, ValueList};
 use smv_tree::Value;
@@ -115,10 +113,7 @@ pub fn eval_at<'a, M: Moment>(
             },
             Err(fault) => Err(fault),
         },
-        FlatExpr::One(_, o, a) => match eval_at(alloc, now, later, a) {
-            Ok(list) => answered(one_of(*o, list.as_slice())),
-            Err(fault) => Err(fault),
-        },
+        FlatExpr::One(_, o, a) => apply_one(*o, eval_at(alloc, now, later, a)),
         FlatExpr::Two(_, o, a, b) => match eval_at(alloc, now, later, a) {
             Ok(left) => match eval_at(alloc, now, later, b) {
                 Ok(right) => both(alloc, *o, left, right),
@@ -126,15 +121,9 @@ pub fn eval_at<'a, M: Moment>(
             },
             Err(fault) => Err(fault),
         },
-        FlatExpr::Select(_, a, high, low) => match eval_at(alloc, now, later, a) {
-            Ok(list) => answered(selected_of(*high, *low, list.as_slice())),
-            Err(fault) => Err(fault),
-        },
+        FlatExpr::Select(_, a, high, low) => select(*high, *low, eval_at(alloc, now, later, a)),
         FlatExpr::Next(_, a) => eval_at(alloc, later, later, a),
-        FlatExpr::Widen(_, resize, a, n) => match eval_at(alloc, now, later, a) {
-            Ok(list) => answered(widened_of(*resize, *n, list.as_slice())),
-            Err(fault) => Err(fault),
-        },
+        FlatExpr::Widen(_, resize, a, n) => widen(*resize, *n, eval_at(alloc, now, later, a)),
         FlatExpr::Const(_, signed, v, n) => answered(word_of(*signed, *n, *v)),
         FlatExpr::Count(_, es) => eval_count(alloc, now, later, es.as_slice()),
     }

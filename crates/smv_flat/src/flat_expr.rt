@@ -1,7 +1,9 @@
-ghost use Rattle.std.specs.Prelude.{◌≡◌};
+ghost use Rattle.std.specs.Prelude.{◌≡◌, IfOk};
 ghost use Rattle.smv_tree.specs.declared.value.Value.TheVariants.{Sym};
 
+use crate::copies::copy_of;
 use smv_tree::{Name, Op1, Op2, Place, Value, WordVal};
+use std::alloc::{AllocError, Global};
 use std::marker::Model;
 
 /// A symbol of an enumeration, kept as the value that it is.
@@ -30,6 +32,14 @@ impl Symbol {
         Symbol {
             value: Value::Sym(name),
         }
+    }
+
+    /// Another symbol of the same name.
+    pub fn copy(&self, alloc: Global) -> Result<Symbol, AllocError>
+        ensures { IfOk result (λ s. s ≡ self.now) }
+    {
+        let value = copy_of(alloc, &self.value)?;
+        Ok(Symbol { value })
     }
 
     /// The value that the symbol is.

@@ -30,7 +30,7 @@ pub use flat_moment::FlatMoment;
 pub use flat_values::{eval, holds, holds_at};
 pub use laws::{
     held_values_are_those_of_the_expression, held_values_are_those_of_the_model,
-    values_by_number_are_those_by_path,
+    held_values_are_those_of_the_program, values_by_number_are_those_by_path,
 };
 pub use moment::{Moment, MomentLists};
 pub use partial::{Partial, Stateds};

@@ -1,5 +1,6 @@
 //! What single nodes make of the values of their parts.
-ghost use Rattle.std.specs.Prelude.{◌≡◌, ◌∷◌, [], ◌<◌, ◌^◌, pos, IfSome};
+ghost use Rattle.std.specs.Prelude.{◌≡◌, ◌∷◌, [], ◌<◌, ◌^◌, pos, List, Option, IfSome};
+ghost use Rattle.smv_tree.specs.declared.value.Value.{Value as SmvValue};
 ghost use Rattle.smv_tree.specs.declared.value.Value.TheVariants.{Int};
 ghost use Rattle.smv_meaning.specs.Operators.{one_value, two_values, selected, widened};
 ghost use Rattle.smv_meaning.specs.Values.{on_one, on_two};
@@ -7,7 +8,7 @@ ghost use Rattle.smv_meaning.specs.FlatTrees.{name_values};
 ghost use Rattle.smv_values.specs.Answers.{kept, told};
 ghost use Rattle.smv_flat.specs.Views.{flat_name};
 ghost use Rattle.smv_flat.specs.Lists.{values_of, Answers};
-ghost use Rattle.smv_flat.specs.Fitting.{fitting_both, truth_of};
+ghost use Rattle.smv_flat.specs.Fitting.{fitting_both, truth_of, with_values};
 ghost use Rattle.smv_flat.specs.Counts.{count_more, count_values};
 
 use crate::copies::{joined, many};
@@ -50,7 +51,7 @@ pub(crate) fn truth_of(values: &[Value]) -> Option<bool>
     }
 }
 
-pub(crate) fn one_of(o: Op1, values: &[Value]) -> Outcome
+fn one_of(o: Op1, values: &[Value]) -> Outcome
     ensures { told result ≡ kept (on_one (one_value o) values.now) }
 {
     match values {
@@ -59,7 +60,7 @@ pub(crate) fn one_of(o: Op1, values: &[Value]) -> Outcome
     }
 }
 
-pub(crate) fn selected_of(high: u32, low: u32, values: &[Value]) -> Outcome
+fn selected_of(high: u32, low: u32, values: &[Value]) -> Outcome
     ensures { told result ≡ kept (on_one (selected high low) values.now) }
 {
     match values {
@@ -68,12 +69,56 @@ pub(crate) fn selected_of(high: u32, low: u32, values: &[Value]) -> Outcome
     }
 }
 
-pub(crate) fn widened_of(resize: bool, n: u32, values: &[Value]) -> Outcome
+fn widened_of(resize: bool, n: u32, values: &[Value]) -> Outcome
     ensures { told result ≡ kept (on_one (widened resize n) values.now) }
 {
     match values {
         [v] => widened(resize, n, v),
         _ => Ok(None),
+    }
+}
+
+/// An operator of one operand.
+pub(crate) fn apply_one<'a>(
+    o: Op1,
+    a: Result<ValueList<'a>, EvalFault>,
+) -> Result<ValueList<'a>, EvalFault>
+    ensures { (found : Option (List SmvValue)) → Answers a.entry found →
+        Answers result (with_values found (λ vs. kept (on_one (one_value o) vs))) }
+{
+    match a {
+        Ok(list) => answered(one_of(o, list.as_slice())),
+        Err(fault) => Err(fault),
+    }
+}
+
+/// The bits of an operand from the low to the high one.
+pub(crate) fn select<'a>(
+    high: u32,
+    low: u32,
+    a: Result<ValueList<'a>, EvalFault>,
+) -> Result<ValueList<'a>, EvalFault>
+    ensures { (found : Option (List SmvValue)) → Answers a.entry found →
+        Answers result (with_values found (λ vs. kept (on_one (selected high low) vs))) }
+{
+    match a {
+        Ok(list) => answered(selected_of(high, low, list.as_slice())),
+        Err(fault) => Err(fault),
+    }
+}
+
+/// An operand with more bits, or resized.
+pub(crate) fn widen<'a>(
+    resize: bool,
+    n: u32,
+    a: Result<ValueList<'a>, EvalFault>,
+) -> Result<ValueList<'a>, EvalFault>
+    ensures { (found : Option (List SmvValue)) → Answers a.entry found →
+        Answers result (with_values found (λ vs. kept (on_one (widened resize n) vs))) }
+{
+    match a {
+        Ok(list) => answered(widened_of(resize, n, list.as_slice())),
+        Err(fault) => Err(fault),
     }
 }
 

@@ -7,8 +7,7 @@ use Rattle.std.proofs.lemmas.List.{drop_all}
 use Rattle.smv_flat.specs.Lists.{Answers}
 use Rattle.smv_flat.specs.Views.{flat_tree, flats}
 use Rattle.smv_flat.specs.Fitting.{each_fitting}
-use Rattle.smv_flat.specs.Counts.{count_on}
-use Rattle.smv_flat.proofs.Loops.{count_told}
+use Rattle.smv_flat.proofs.Loops.{count_on, count_told}
 use Rattle.smv_flat.proofs.evaluation.+eval.Goals as goal
 
 pub eval_count-returns : goal.eval_count-returns

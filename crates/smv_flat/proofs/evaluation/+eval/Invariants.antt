@@ -2,7 +2,7 @@ use Rattle.std.proofs.Common.{◌≡◌, ◌++◌, ◌≤◌, drop, map}
 use Rattle.std.specs.Prelude.{Some, option_map, IfSome}
 use Rattle.smv_flat.specs.Views.{flat_arm, flat_arms, flat_tree, flats}
 use Rattle.smv_flat.specs.Fitting.{all_fitting, each_fitting, first_fitting, with_values}
-use Rattle.smv_flat.specs.Counts.{count_on}
+use Rattle.smv_flat.proofs.Loops.{count_on}
 use Rattle.smv_flat.proofs.evaluation.+eval.Given as goal
 
 -- the values of all are those that are there, before those of the expressions that are left
