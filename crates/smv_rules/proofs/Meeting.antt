@@ -15,24 +15,24 @@ use Rattle.smv_rules.proofs.Ways.{follows_rest, leads_rest}
 use Rattle.smv_rules.proofs.Told.{Tells, told}
 
 -- the equations of reading
-must_read : (n : ℕ) (s : Sort) (k : Key) (f : Payload k → Rule s) (t : Token) (p : Payload k) (ts : List Token) → sees k t ts ≡ Some p → run n (must s k f) (t ∷ ts) ≡ run n (f p) ts
+pub must_read : (n : ℕ) (s : Sort) (k : Key) (f : Payload k → Rule s) (t : Token) (p : Payload k) (ts : List Token) → sees k t ts ≡ Some p → run n (must s k f) (t ∷ ts) ≡ run n (f p) ts
 unfolding run
 must_read n s k f t p ts e = ap (λ (o : Option (Payload k)). if_seen o (λ p. run n (f p) ts) (Err (wrong (length (t ∷ ts))))) e
 
-take_read : (n : ℕ) (s : Sort) (k : Key) (f : Payload k → Rule s) (r : Rule s) (t : Token) (p : Payload k) (ts : List Token) → sees k t ts ≡ Some p → run n (may s k f r) (t ∷ ts) ≡ run n (f p) ts
+pub take_read : (n : ℕ) (s : Sort) (k : Key) (f : Payload k → Rule s) (r : Rule s) (t : Token) (p : Payload k) (ts : List Token) → sees k t ts ≡ Some p → run n (may s k f r) (t ∷ ts) ≡ run n (f p) ts
 unfolding run
 take_read n s k f r t p ts e = ap (λ (o : Option (Payload k)). if_seen o (λ p. run n (f p) ts) (run n r (t ∷ ts))) e
 
-skip_read : (n : ℕ) (s : Sort) (k : Key) (f : Payload k → Rule s) (r : Rule s) (ts : List Token) → Unseen k ts → run n (may s k f r) ts ≡ run n r ts
+pub skip_read : (n : ℕ) (s : Sort) (k : Key) (f : Payload k → Rule s) (r : Rule s) (ts : List Token) → Unseen k ts → run n (may s k f r) ts ≡ run n r ts
 unfolding run
 skip_read n s k f r [] u = refl
 skip_read n s k f r (t ∷ ts) u = ap (λ (o : Option (Payload k)). if_seen o (λ p. run n (f p) ts) (run n r (t ∷ ts))) u
 
-then_read : (n : ℕ) (z s : Sort) (r : Rule z) (f : Gift z → Rule s) (ts us : List Token) (a : Gift z) → run n r ts ≡ Ok (a, us) → run n (then z s r f) ts ≡ run n (f a) us
+pub then_read : (n : ℕ) (z s : Sort) (r : Rule z) (f : Gift z → Rule s) (ts us : List Token) (a : Gift z) → run n r ts ≡ Ok (a, us) → run n (then z s r f) ts ≡ run n (f a) us
 unfolding run
 then_read n z s r f ts us a e = ap (λ (q : Got (Gift z)). q >>= (λ b. run n (f b.0) b.1)) e
 
-stop_read : (n : ℕ) (s : Sort) (k : Key) (f : Gift s → Payload k → Rule s) (a : Gift s) (ts : List Token) → Unseen k ts → run n (again s k f a) ts ≡ Ok (a, ts)
+pub stop_read : (n : ℕ) (s : Sort) (k : Key) (f : Gift s → Payload k → Rule s) (a : Gift s) (ts : List Token) → Unseen k ts → run n (again s k f a) ts ≡ Ok (a, ts)
 unfolding run repeated
 stop_read n s k f a [] u = refl
 stop_read n s k f a (t ∷ ts) u = ap (λ (o : Option (Payload k)). if_seen o (λ p. run n (f a p) ts >>= (λ b. repeated s k (λ b p us. run n (f b p) us) (length ts) b.0 b.1)) (Ok (a, t ∷ ts))) u
@@ -70,14 +70,14 @@ enough n s k f (suc i) (suc j) a (t ∷ ts) le le2 = by_seen (λ b us l l2. enou
   by_seen more (Some p) = same_then (length ts) (run n (f a p) ts) (go i) (go j) (run_within n (f a p) ts) (λ x l. more x.0 x.1 (omega (arith, le, l)) (omega (arith, le2, l)))
 
 -- behind one more, reading goes on as behind what it gave
-next_read : (n : ℕ) (s : Sort) (k : Key) (f : Gift s → Payload k → Rule s) (a : Gift s) (t : Token) (p : Payload k) (ts : List Token) → sees k t ts ≡ Some p → run n (again s k f a) (t ∷ ts) ≡ (run n (f a p) ts >>= (λ b. run n (again s k f b.0) b.1))
+pub next_read : (n : ℕ) (s : Sort) (k : Key) (f : Gift s → Payload k → Rule s) (a : Gift s) (t : Token) (p : Payload k) (ts : List Token) → sees k t ts ≡ Some p → run n (again s k f a) (t ∷ ts) ≡ (run n (f a p) ts >>= (λ b. run n (again s k f b.0) b.1))
 unfolding run repeated
 next_read n s k f a t p ts e =
     let go : Gift s × List Token → Got (Gift s) = λ b. repeated s k (λ b p us. run n (f b p) us) (length ts) b.0 b.1 in
     ap (λ (o : Option (Payload k)). if_seen o (λ p. run n (f a p) ts >>= go) (Ok (a, t ∷ ts))) e
     ∙ same_then (length ts) (run n (f a p) ts) go (λ b. repeated s k (λ b p us. run n (f b p) us) (length b.1) b.0 b.1) (run_within n (f a p) ts) (λ x l. enough n s k f (length ts) (length x.1) x.0 x.1 l (omega arith))
 
-given : {X Y : Type 0} (out : Got X) (f : X × List Token → Got Y) (x : X) (us : List Token) → out ≡ Ok (x, us) → (out >>= f) ≡ f (x, us)
+pub given : {X Y : Type 0} (out : Got X) (f : X × List Token → Got Y) (x : X) (us : List Token) → out ≡ Ok (x, us) → (out >>= f) ≡ f (x, us)
 given out f x us e = ap (λ (q : Got _). q >>= f) e
 
 part_read : (n : ℕ) (s : Sort) (p : Part s) (r : Rule s) (ts : List Token) → run (suc n) (part s p r) ts ≡ run n (table p) ts
@@ -88,7 +88,7 @@ other_read : (s : Sort) (p : Part s) (r : Rule s) (ts : List Token) → run 0 (p
 unfolding run
 other_read s p r ts = refl
 
-done_read : (n : ℕ) (s : Sort) (x : Gift s) (ts : List Token) → run n (gives s x) ts ≡ Ok (x, ts)
+pub done_read : (n : ℕ) (s : Sort) (x : Gift s) (ts : List Token) → run n (gives s x) ts ≡ Ok (x, ts)
 unfolding run
 done_read n s x ts = refl
 

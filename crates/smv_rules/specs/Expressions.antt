@@ -87,16 +87,22 @@ abbrev pub prefixed : Place → Op1 → ℕ → Rule an_expression
 prefixed p o l = opened l >>= (λ a. deeper (tree.one p o a.tree) a.depth)
 
 -- [ "?" expr ":" level 13 ]
-abbrev pub chosen : Expression → Rule an_expression
-chosen c = may an_expression (key.mark marks.Question) (λ p. do
+abbrev pub choosing : Expression → Place → Rule an_expression
+choosing c p = do
   a ← side 15
   q ← mark marks.Colon
   b ← side 13
-  deeper (tree.choice p c.tree a.tree b.tree) (max c.depth (max a.depth b.depth))) (gives an_expression c)
+  deeper (tree.choice p c.tree a.tree b.tree) (max c.depth (max a.depth b.depth))
+
+abbrev pub chosen : Expression → Rule an_expression
+chosen c = may an_expression (key.mark marks.Question) (λ p. choosing c p) (gives an_expression c)
 
 -- [ "->" level 15 ]
+abbrev pub implying : Expression → Place → Rule an_expression
+implying a p = side 15 >>= (λ b. deeper (tree.two p op2.Implies a.tree b.tree) (max a.depth b.depth))
+
 abbrev pub implied : Expression → Rule an_expression
-implied a = may an_expression (key.mark marks.Arrow) (λ p. side 15 >>= (λ b. deeper (tree.two p op2.Implies a.tree b.tree) (max a.depth b.depth))) (gives an_expression a)
+implied a = may an_expression (key.mark marks.Arrow) (λ p. implying a p) (gives an_expression a)
 
 -- An expression of a level, from one of the next tighter level.
 abbrev pub level_from : ℕ → Rule an_expression → Rule an_expression
@@ -120,10 +126,11 @@ expr = level 15
 abbrev pub one_more : Operands → Expression → Operands
 one_more xs a = record { trees = xs.trees ++ a.tree ∷ []; depth = max xs.depth a.depth }
 
+abbrev pub more_operands : Operands → Rule some_operands
+more_operands xs = again some_operands (key.mark marks.Comma) (λ xs p. expr >>= (λ b. gives some_operands (one_more xs b))) xs
+
 abbrev pub operands : Rule some_operands
-operands = do
-  a ← expr
-  again some_operands (key.mark marks.Comma) (λ xs p. expr >>= (λ b. gives some_operands (one_more xs b))) (record { trees = a.tree ∷ []; depth = a.depth })
+operands = expr >>= (λ a. more_operands (record { trees = a.tree ∷ []; depth = a.depth }))
 
 -- expr : expr
 abbrev pub branch : Branches → Rule some_branches
@@ -133,6 +140,9 @@ branch bs = do
   v ← expr
   gives some_branches (record { arms = bs.arms ++ (c.tree, v.tree) ∷ []; depth = max bs.depth (max c.depth v.depth) })
 
+abbrev pub more_branches : Branches → Rule some_branches
+more_branches bs = again some_branches key.further (λ bs q. branch bs) bs
+
 abbrev pub no_branches : Branches
 no_branches = record { arms = []; depth = 0 }
 
@@ -140,7 +150,7 @@ no_branches = record { arms = []; depth = 0 }
 abbrev pub listed_branches : Place → Rule an_expression
 listed_branches p = do
   b ← branch no_branches
-  bs ← again some_branches key.further (λ bs q. branch bs) b
+  bs ← more_branches b
   q ← mark marks.Semicolon
   r ← mark marks.Esac
   deeper (tree.cases p (arms bs.arms)) bs.depth

@@ -6,8 +6,9 @@ use Rattle.smv_tree.specs.declared.program.Moment.{Moment}
 use Rattle.smv_tree.specs.declared.program.Moment.TheVariants as moment
 use Rattle.smv_tree.specs.declared.program.Section.{Section}
 use Rattle.smv_tree.specs.declared.value.Ty.TheVariants as ty
+use Rattle.smv_tree.specs.declared.value.Value.{Value}
 use Rattle.smv_tree.specs.declared.value.Value.TheVariants as value
-use Rattle.smv_tree.specs.Models.{Part, plain, instance, variable, define, assign, constraint, property}
+use Rattle.smv_tree.specs.Models.{Body, Formal, Part, plain, instance, variable, define, assign, constraint, property}
 use Rattle.smv_token.specs.declared.mark.Mark.TheVariants as marks
 use Rattle.smv_grammar.specs.Forms.{integer}
 use Rattle.smv_grammar.specs.Formulas.{outermost}
@@ -23,11 +24,15 @@ use Rattle.smv_rules.specs.Sorts.{a_shape, a_value, some_bodies, some_formals, s
 abbrev pub an_elem : Rule a_value
 an_elem = may a_value key.name (λ n. gives a_value (value.Sym n.0)) (an_int >>= (λ i. gives a_value (value.Int i)))
 
+-- { , elem }*, behind elements
+abbrev pub more_elems : List Value → Rule some_values
+more_elems vs = again some_values (key.mark marks.Comma) (λ vs q. an_elem >>= (λ w. gives some_values (vs ++ w ∷ []))) vs
+
 -- elem { , elem }* "}"
 abbrev pub enumeration : Place → Rule a_shape
 enumeration p = do
   v ← an_elem
-  vs ← again some_values (key.mark marks.Comma) (λ vs q. an_elem >>= (λ w. gives some_values (vs ++ w ∷ []))) (v ∷ [])
+  vs ← more_elems (v ∷ [])
   q ← mark marks.CloseCurly
   gives a_shape (plain (ty.Enum vs) p)
 
@@ -146,15 +151,22 @@ section_from ps assignments p = all_assigned ps
 section_from ps (constraints s) p = constrained ps s p
 section_from ps properties p = a_property ps p
 
--- { section }*
+-- { section }*, behind other parts
+abbrev pub more_sections : List Part → Rule some_parts
+more_sections ps = again some_parts key.heading (λ ps h. section_from ps h.0 h.1) ps
+
 abbrev pub sections : Rule some_parts
-sections = again some_parts key.heading (λ ps h. section_from ps h.0 h.1) []
+sections = more_sections []
+
+-- { , name }*, behind names
+abbrev pub more_formals : List Formal → Rule some_formals
+more_formals fs = again some_formals (key.mark marks.Comma) (λ fs p. name >>= (λ m. gives some_formals (fs ++ formal m.0 m.1 ∷ []))) fs
 
 -- name { , name }* ")"
 abbrev pub some_names : Rule some_formals
 some_names = do
   n ← name
-  fs ← again some_formals (key.mark marks.Comma) (λ fs p. name >>= (λ m. gives some_formals (fs ++ formal m.0 m.1 ∷ []))) (formal n.0 n.1 ∷ [])
+  fs ← more_formals (formal n.0 n.1 ∷ [])
   q ← mark marks.CloseRound
   gives some_formals fs
 
@@ -162,10 +174,13 @@ some_names = do
 abbrev pub formals : Rule some_formals
 formals = may some_formals (key.mark marks.OpenRound) (λ p. may some_formals (key.mark marks.CloseRound) (λ q. gives some_formals []) some_names) (gives some_formals [])
 
--- { MODULE name [ "(" [ name { , name }* ] ")" ] { section }* }*
-abbrev pub program : Rule some_bodies
-program = again some_bodies (key.mark marks.Module) (λ ms p. do
+-- { MODULE name [ "(" [ name { , name }* ] ")" ] { section }* }*, behind modules
+abbrev pub more_modules : List Body → Rule some_bodies
+more_modules ms = again some_bodies (key.mark marks.Module) (λ ms p. do
   n ← name
   fs ← formals
   ps ← sections
-  gives some_bodies (ms ++ record { name = n.0; place = n.1; params = fs; parts = ps } ∷ [])) []
+  gives some_bodies (ms ++ record { name = n.0; place = n.1; params = fs; parts = ps } ∷ [])) ms
+
+abbrev pub program : Rule some_bodies
+program = more_modules []
