@@ -39,8 +39,8 @@ caused_quiet k old events end new p =
     record { disk = c.rises; input = count_step (inl (ap (λ i. i.faults) c.input)); quiet = λ d i. c.quiet d.could d.same }
 
 -- a count that is silent over two steps is so over each
-halves : {a b c : ℕ} → (a ≤ last_count → (a ≤ b) × (b ≤ last_count)) → (b ≤ last_count → (b ≤ c) × (c ≤ last_count)) → IsSilent a c → IsSilent a b × IsSilent b c
-halves {a = a} {b = b} {c = c} f g s =
+halves : (a b c : ℕ) → (a ≤ last_count → (a ≤ b) × (b ≤ last_count)) → (b ≤ last_count → (b ≤ c) × (c ≤ last_count)) → IsSilent a c → IsSilent a b × IsSilent b c
+halves a b c f g s =
     let k = f (omega (arith, s.could)) in
     let l = g k.1 in
     let e : b ≡ a = omega (arith, k.0, l.0, s.same) in
@@ -48,13 +48,13 @@ halves {a = a} {b = b} {c = c} f g s =
 
 quiet_both : {old mid new : Scene} {before events : List Event} {middle end : End} → IsQuiet old before middle mid → IsQuiet mid events end new → IsQuiet old (before ++ events) end new
 quiet_both {old = old} {mid = mid} {new = new} {before = before} {events = events} k l = record {
-  disk = λ low. rise k.disk l.disk low;
-  input = λ low. rise k.input l.input low;
-  quiet = λ d i. both (halves k.disk l.disk d) (halves k.input l.input i);
+  disk = λ low. rise old.disk.faults mid.disk.faults new.disk.faults k.disk l.disk low;
+  input = λ low. rise old.input.faults mid.input.faults new.input.faults k.input l.input low;
+  quiet = λ d i. both (halves old.disk.faults mid.disk.faults new.disk.faults k.disk l.disk d) (halves old.input.faults mid.input.faults new.input.faults k.input l.input i);
 }
   where
-    rise : {a b c : ℕ} → (a ≤ last_count → (a ≤ b) × (b ≤ last_count)) → (b ≤ last_count → (b ≤ c) × (c ≤ last_count)) → a ≤ last_count → (a ≤ c) × (c ≤ last_count)
-    rise f g low = let x = f low in let y = g x.1 in (omega (arith, x.0, y.0), y.1)
+    rise : (a b c : ℕ) → (a ≤ last_count → (a ≤ b) × (b ≤ last_count)) → (b ≤ last_count → (b ≤ c) × (c ≤ last_count)) → a ≤ last_count → (a ≤ c) × (c ≤ last_count)
+    rise a b c f g low = let x = f low in let y = g x.1 in (omega (arith, x.0, y.0), y.1)
 
     both : IsSilent old.disk.faults mid.disk.faults × IsSilent mid.disk.faults new.disk.faults → IsSilent old.input.faults mid.input.faults × IsSilent mid.input.faults new.input.faults → list_any tells_fault (before ++ events) ≡ false
     both d i =
@@ -64,9 +64,7 @@ quiet_both {old = old} {mid = mid} {new = new} {before = before} {events = event
 
 chain_quiet : (leads : State → End → Bool) {P Q : Process} → Always P IsQuiet → Always Q IsQuiet → Always (Chain leads P Q) IsQuiet
 unfolding Chain
-chain_quiet leads k l old events end new (inl p) =
-    let q = k old events end new p.first in
-    record { disk = q.disk; input = q.input; quiet = q.quiet }
+chain_quiet leads k l old events end new (inl p) = k old events end new p.first
 chain_quiet leads k l old events end new (inr p) =
     subst (λ es. IsQuiet old es end new) (sym p.joined) (quiet_both (k old p.before p.middle p.mid p.first) (l p.mid p.behind end new p.second))
 
@@ -109,9 +107,7 @@ nth_quiet t false line = caused_quiet (input_caused t line)
 -- the input failed, and its count rose
 read_failed : (count : ℕ) → Always (Chain goes_along (TakesLine line_limit (Err faults.ReadFault)) (Treats count (Err faults.ReadFault))) IsQuiet
 unfolding Chain TakesLine EndsSaying
-read_failed count old events end new (inl p) =
-    let q = takes_quiet (Err faults.ReadFault) old events end new p.first in
-    record { disk = q.disk; input = q.input; quiet = q.quiet }
+read_failed count old events end new (inl p) = takes_quiet (Err faults.ReadFault) old events end new p.first
 read_failed count old events end new (inr p) = record {
   disk = count_step (inl (ap (λ s. s.disk.faults) p.second.same ∙ ap (λ s. s.disk.faults) p.first.others));
   input = count_step (inr risen);

@@ -139,7 +139,7 @@ command_kept t depth pieces old events end new r (inr (answer, (is, p))) = by_an
   where
     changed : (word : List ℕ) (words : List (List ℕ)) (c : Command) → Expands old.state.vars old.state.aliases pieces (Ok (word ∷ words)) → command_of word ≡ Some c → ChangesLittle depth c words old new → IsKept old new ⊎ ChangesMore depth pieces old new
     changed word words c x e (inl k) = inl k
-    changed word words c x e (inr k) = inr record { word = word; words = words; command = c; expands = x; called = e; changed = k }
+    changed word words c x e (inr k) = inr record { word = word; words = words; found = c; expands = x; called = e; changed = k }
 
     by_found : (word : List ℕ) (words : List (List ℕ)) (found : Option Command) → Expands old.state.vars old.state.aliases pieces (Ok (word ∷ words)) → command_of word ≡ found → DoesAny (Sourcing depth) found word words old events end new → IsKept old new ⊎ ChangesMore depth pieces old new
     by_found word words (Some c) x e q = changed word words c x e (named_little t depth c words old events end new r q)

@@ -107,12 +107,12 @@ treats_gives t count text (Err faults.ReadFault) start old events end new l r p 
     failed (subst (λ n. HasRisen start.input.faults n) (ap (λ s. s.input.faults) (sym p.same)) r.cause) (cut_or new.state refl p.ended)
 treats_gives t count text (Err faults.TooLong) start old events end new l r p = long (too_long (sym l) r.reads)
   where
+    by_left : (front : List ℕ) → IsOneLine front → length front ≡ line_limit + 1 → (left : Option (List ℕ)) → Some text ≡ prepend_known front left → has_long_line text ≡ true
+    by_left front one n None k = absurd (none-some text (sym k))
+    by_left front one n (Some rest) k = ap has_long_line (same_Some _ _ k) ∙ long_among line_limit front rest one n
+
     too_long : Some text ≡ start.input.left → ((front : List ℕ) × IsOneLine front × (length front ≡ line_limit + 1) × (start.input.left ≡ prepend_known front old.input.left)) → has_long_line text ≡ true
-    too_long m (front, one, n, e) = by_left old.input.left (m ∙ e)
-      where
-        by_left : (left : Option (List ℕ)) → Some text ≡ prepend_known front left → has_long_line text ≡ true
-        by_left None k = absurd (none-some text (sym k))
-        by_left (Some rest) k = ap has_long_line (same_Some _ _ k) ∙ long_among line_limit front rest one n
+    too_long m (front, one, n, e) = by_left front one n old.input.left (m ∙ e)
 treats_gives t count text (Err (faults.NoMemory m)) start old events end new l r p = over (λ e. by_end p.ended e) (cut_or new.state refl p.ended)
   where
     by_end : ((end ≡ ends.NoMemory) ⊎ (end ≡ ends.Cut)) → end ≡ ends.InputFailed → ⊥
@@ -142,14 +142,14 @@ PassesFrom count text = (has_long_line text ≡ true) ⊎ (most_lines < count + 
 pub turns_pass : TopicsCause → (prompts : Bool) (text : List ℕ) {count : ℕ} {old : Scene} {events : List Event} {end : End} {new : Scene} → end ≡ ends.InputFailed → old.input.left ≡ Some text → IsSilent old.input.faults new.input.faults → Turns prompts count old events end new → PassesFrom count text
 turns_pass t prompts text f l i (stops count old events end new turn halt) = by_gift (turn_gives t prompts count text old events end new l turn)
   where
+    last_of : TookLine text new.input.left → count ≡ most_lines → most_lines < count + length (script_lines text)
+    last_of k c = let e : length (script_lines text) ≡ suc (length (script_lines k.rest)) = ap length k.lines in omega (arith, c, e)
+
     by_gift : TurnGives count text old end new → PassesFrom count text
     by_gift (over n g) = absurd (n f)
     by_gift (long h) = inl h
     by_gift (failed r g) = absurd (silent_not i r)
     by_gift (took k same c) = inr (last_of k (c f))
-
-    last_of : TookLine text new.input.left → count ≡ most_lines → most_lines < count + length (script_lines text)
-    last_of k c = let e : length (script_lines text) ≡ suc (length (script_lines k.rest)) = ap length k.lines in omega (arith, c, e)
 turns_pass t prompts text f l i (goes count old first end mid others last new turn on rest) = by_gift (turn_gives t prompts count text old first end mid l turn)
   where
     more : (k : TookLine text mid.input.left) → PassesFrom (count + 1) k.rest → PassesFrom count text

@@ -67,10 +67,10 @@ ChangesLittle depth c words old new = IsKept old new ⊎ MayChange depth c words
 pub record ChangesMore (depth : ℕ) (pieces : List (List Piece)) (old new : Scene) : Type 0 where
   pub word : List ℕ
   pub words : List (List ℕ)
-  pub command : Command
+  pub found : Command
   pub expands : Expands old.state.vars old.state.aliases pieces (Ok (word ∷ words))
-  pub called : command_of word ≡ Some command
-  pub changed : MayChange depth command words old new
+  pub called : command_of word ≡ Some found
+  pub changed : MayChange depth found words old new
 
 -- a line's commands went well up to a refused one, and all is as they left it but for what that one may
 -- have changed

@@ -83,7 +83,7 @@ from_guards name None = says_leave guards_fact _ _ refl refl
 from_guards name (Some file) = file_leave guards_fact model_limit file (ExecutesOnText name) (λ text. some_leave _ (λ answer. where_leave _ (λ is. on_guards name answer)))
 
 with_guards : (name : List ℕ) (there : Option Program) (state : State) → Always (ExecutesWith name there state) Guards
-with_guards name (Some program) state = λ old events end new p. guards_fact.still old end new (judging_leaves program name old events end new p)
+with_guards name (Some program) state = λ old events end new p. guards_fact.still old events end new (judging_leaves program name old events end new p)
 with_guards name None state = may_lack_leave guards_fact (from_guards name (input_file state))
 
 if_guards : (changes : Bool) (names : List (List ℕ)) → Always (ExecutesIf changes names) Guards
