@@ -150,14 +150,15 @@ turns_pass t prompts text f l i (stops count old events end new turn halt) = by_
     by_gift (long h) = inl h
     by_gift (failed r g) = absurd (silent_not i r)
     by_gift (took k same c) = inr (last_of k (c f))
-turns_pass t prompts text f l i (goes count old first end mid others last new turn on rest) = by_gift (turn_gives t prompts count text old first end mid l turn)
+turns_pass t prompts text f l i (goes count old first end mid others last new turn on rest) =
+    by_gift (λ k same. turns_pass t prompts k.rest f k.left record { same = i.same ∙ sym same; could = subst (λ n. n < last_count) (sym same) i.could } rest) (turn_gives t prompts count text old first end mid l turn)
   where
     more : (k : TookLine text mid.input.left) → PassesFrom (count + 1) k.rest → PassesFrom count text
     more k (inl h) = inl (ap (λ ls. list_any (λ line. nat_lt line_limit (length line)) ls) k.lines ∙ or_true (nat_lt line_limit (length k.line)) h)
     more k (inr h) = let e : length (script_lines text) ≡ suc (length (script_lines k.rest)) = ap length k.lines in inr (omega (arith, h, e))
 
-    by_gift : TurnGives count text old end mid → PassesFrom count text
-    by_gift (over n g) = absurd (true≢false (sym on ∙ g))
-    by_gift (long h) = inl h
-    by_gift (failed r g) = absurd (true≢false (sym on ∙ g))
-    by_gift (took k same c) = more k (turns_pass t prompts k.rest f k.left record { same = i.same ∙ sym same; could = subst (λ n. n < last_count) (sym same) i.could } rest)
+    by_gift : ((k : TookLine text mid.input.left) → mid.input.faults ≡ old.input.faults → PassesFrom (count + 1) k.rest) → TurnGives count text old end mid → PassesFrom count text
+    by_gift again (over n g) = absurd (true≢false (sym on ∙ g))
+    by_gift again (long h) = inl h
+    by_gift again (failed r g) = absurd (true≢false (sym on ∙ g))
+    by_gift again (took k same c) = more k (again k same)
