@@ -3,3 +3,8 @@ pub mod Lining
 pub mod Opening
 pub mod Asking
 pub mod Refusing
+pub mod Causing
+pub mod Sounding
+pub mod Turning
+pub mod Ending
+pub mod Quieting

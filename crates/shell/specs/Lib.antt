@@ -7,3 +7,4 @@ pub mod Closing
 pub mod AskedViews
 pub mod Words
 pub mod Refused
+pub mod Sound

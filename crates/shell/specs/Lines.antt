@@ -125,9 +125,10 @@ script_lines [] = []
 script_lines (byte ∷ bytes) =
     if byte == 10 then [] ∷ script_lines bytes else onto_first byte (script_lines bytes)
 
--- a line of a script is written before it is done, where that is asked for
+-- a line of a script is written before it is done, where that is asked for; where memory is refused for
+-- that, the line is refused
 abbrev pub ShowsScriptLine : Bool → List ℕ → Process
-ShowsScriptLine true line = Either LacksMemory (Says (event.Shell (shell.Line line)))
+ShowsScriptLine true line = MayLack (Says (event.Shell (shell.Line line)))
 ShowsScriptLine false line = Ends ends.Went
 
 -- a line of a script

@@ -1,34 +1,80 @@
--- What a refused command, and a line at it, leave as it was.
-use Rattle.std.specs.Prelude.{◌≡◌, ◌⊎◌, ℕ, Bool, true, false, List, ◌∷◌, ◌++◌, Some, Ok}
+-- What a refused command, and a line at it, leave as it was, and what they may have changed.
+use Rattle.std.specs.Prelude.{◌≡◌, ◌⊎◌, ℕ, zero, suc, List, ◌∷◌, ◌++◌, Some, Ok, Err}
+use Rattle.cmd_table.specs.declared.given.Given.{Given}
+use Rattle.cmd_table.specs.Options.{Options}
+use Rattle.shell_lang.specs.declared.fault.LangFault.{LangFault}
 use Rattle.shell_lang.specs.declared.line.Piece.{Piece}
 use Rattle.shell_lang.specs.Filled.{Expands}
+use Rattle.shell_lang.specs.Lines.{Splits}
+use Rattle.shell_lang.specs.Recall.{recalled}
 use Rattle.shell_world.specs.declared.end.End.TheVariants as ends
 use Rattle.shell_world.specs.declared.event.Event.{Event}
 use Rattle.shell_world.specs.declared.state.State.{State}
-use Rattle.shell_world.specs.Processes.{Each, Process}
+use Rattle.shell_world.specs.Keeping.{IsKept, IsKeptBut}
+use Rattle.shell_world.specs.Processes.{Each}
 use Rattle.shell_world.specs.Scenes.{Scene, goes_along}
 use Rattle.shell.specs.declared.rows.Command.{Command}
 use Rattle.shell.specs.declared.rows.Command.TheVariants as command
 use Rattle.shell.specs.declared.script.Script.{Script}
 use Rattle.shell.specs.declared.topics.ShellCommand.TheVariants as own
-use Rattle.shell.specs.Lines.{DoesCommand}
+use Rattle.shell.specs.declared.topics.TheConstants.{ECHO, SOURCE}
+use Rattle.shell.specs.Echo.{echo_file, echoed}
+use Rattle.shell.specs.Lines.{DoesCommand, DoesLine, DoesScriptLines, Sourcing, given_script}
 use Rattle.shell.specs.Rows.{command_of}
+use Rattle.shell.specs.Sessions.{nesting_limit, remembered}
 
--- a command is `source`: what its script did before a refusal stays
-abbrev pub is_source : Command → Bool
-is_source (command.Shell own.Source) = true
-is_source other = false
+-- the file that `echo -o` names was refused, and it may have a front of what was to be written to it
+pub record BreaksFile (words : List (List ℕ)) (old new : Scene) : Type 0 where
+  pub given : Given
+  pub file : List ℕ
+  pub reads : Options ECHO.table words (Ok given)
+  pub named : echo_file given ≡ Some file
+  pub kept : IsKeptBut file (echoed given) old new
 
--- a command of a line is `source` in this session, with its variables and aliases replaced
-abbrev pub IsSource : List (List Piece) → State → Type 0
-IsSource pieces state =
-    (word : List ℕ) × (words : List (List ℕ))
-    × Expands state.vars state.aliases pieces (Ok (word ∷ words))
-    × (command_of word ≡ Some (command.Shell own.Source))
+-- a script was read, and all that was changed was changed by its lines, of which the last was refused
+pub record RunsLines (depth : ℕ) (script : Script) (old new : Scene) : Type 0 where
+  pub text : List ℕ
+  pub mid : Scene
+  pub events : List Event
+  pub kept : IsKept old mid
+  pub lines : DoesScriptLines (DoesLine depth) script text mid events ends.Refused new
 
--- a line's commands went well up to a refused one, and what the session keeps is what they left,
--- unless the refused one is `source`
-pub record RefusedAfter (nested : Script → Process) (commands : List (List (List Piece)))
+-- no script is read where none may be nested
+abbrev pub RunsScriptLines : ℕ → Script → Scene → Scene → Type 0
+RunsScriptLines zero script old new = ⊥
+RunsScriptLines (suc depth) script old new = RunsLines depth script old new
+
+-- the script is the one that the words of `source` name
+pub record RunsGiven (depth : ℕ) (words : List (List ℕ)) (old new : Scene) : Type 0 where
+  pub given : Given
+  pub script : Script
+  pub reads : Options SOURCE.table words (Ok given)
+  pub named : given_script given ≡ Some script
+  pub runs : RunsScriptLines depth script old new
+
+-- what a refused command may have changed: `echo` a file, and `source` what its lines change; any other
+-- nothing
+abbrev pub MayChange : ℕ → Command → List (List ℕ) → Scene → Scene → Type 0
+MayChange depth (command.Shell own.Echo) words old new = BreaksFile words old new
+MayChange depth (command.Shell own.Source) words old new = RunsGiven depth words old new
+MayChange depth other words old new = ⊥
+
+-- a refused command changed nothing, or what it may change
+abbrev pub ChangesLittle : ℕ → Command → List (List ℕ) → Scene → Scene → Type 0
+ChangesLittle depth c words old new = IsKept old new ⊎ MayChange depth c words old new
+
+-- the same of a command of a line, with its variables and aliases replaced
+pub record ChangesMore (depth : ℕ) (pieces : List (List Piece)) (old new : Scene) : Type 0 where
+  pub word : List ℕ
+  pub words : List (List ℕ)
+  pub found : Command
+  pub expands : Expands old.state.vars old.state.aliases pieces (Ok (word ∷ words))
+  pub called : command_of word ≡ Some found
+  pub changed : MayChange depth found words old new
+
+-- a line's commands went well up to a refused one, and all is as they left it but for what that one may
+-- have changed
+pub record RefusedAfter (depth : ℕ) (commands : List (List (List Piece)))
     (old new : Scene) : Type 0 where
   pub before : List (List (List Piece))
   pub refused : List (List Piece)
@@ -36,5 +82,20 @@ pub record RefusedAfter (nested : Script → Process) (commands : List (List (Li
   pub events : List Event
   pub mid : Scene
   pub are : commands ≡ before ++ refused ∷ behind
-  pub went : Each goes_along (DoesCommand nested) before old events ends.Went mid
-  pub kept : IsSource refused mid.state ⊎ (new.state ≡ mid.state)
+  pub went : Each goes_along (DoesCommand (Sourcing depth)) before old events ends.Went mid
+  pub kept : IsKept mid new ⊎ ChangesMore depth refused mid new
+
+-- a refused line was not split, and changed nothing, or a command of it was refused
+abbrev pub RefusedLine : ℕ → List ℕ → Scene → Scene → Type 0
+RefusedLine depth line old new =
+    ((fault : LangFault) × Splits line (Err fault) × IsKept old new)
+    ⊎ ((commands : List (List (List Piece))) × Splits line (Ok commands)
+    × RefusedAfter depth commands old new)
+
+-- a refused line of input was not recalled, and changed nothing, or it is remembered, and what was
+-- recalled was refused
+abbrev pub RefusedInput : List ℕ → Scene → Scene → Type 0
+RefusedInput line old new =
+    ((fault : LangFault) × (recalled old.state.past line ≡ Err fault) × IsKept old new)
+    ⊎ ((found : List ℕ) × (recalled old.state.past line ≡ Ok found)
+    × RefusedLine nesting_limit found (record old { state = remembered found old.state }) new)

@@ -3,6 +3,7 @@ use Rattle.std.specs.Prelude.{ℕ, List, [], ◌∷◌, Option, Some, None}
 use Rattle.shell_world.specs.declared.end.End.TheVariants as ends
 use Rattle.shell_world.specs.declared.event.Event.TheVariants as event
 use Rattle.shell_world.specs.declared.shell_event.ShellEvent.TheVariants as shell
+use Rattle.shell_world.specs.declared.phase.Phase.TheVariants.{Start}
 use Rattle.shell_world.specs.declared.refusal.Refusal.TheVariants as refusal
 use Rattle.shell_world.specs.declared.state.State.{State}
 use Rattle.shell_world.specs.Processes.{Becomes, Each, Ends, ForSome, MayLack, Process, Refuses, Says, Where}
@@ -42,7 +43,7 @@ Leaves words = WithRow QUIT words (λ given. Ends ends.Quits)
 
 -- the model is dropped; variables, aliases and remembered lines stay
 abbrev pub without_model : State → State
-without_model state = record state { model = None }
+without_model state = record state { model = None; done = Start }
 
 abbrev pub Resets : List (List ℕ) → Process
 Resets words = WithRow RESET words (λ given. Becomes without_model)

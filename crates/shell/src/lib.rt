@@ -17,7 +17,9 @@ mod session;
 mod text;
 mod topics;
 
-pub use laws::refused_line_changes_nothing;
+pub use laws::{
+    refused_line_changes_nothing, sound_sessions_end_well, sound_sessions_tell_no_fault,
+};
 pub use rows::{Command, commands_are_listed};
 pub use run::{run_shell, run_sound};
 pub use session::Session;

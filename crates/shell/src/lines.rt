@@ -329,7 +329,7 @@ fn show_line<W: Outside>(
     }
     match Text::from_slice(alloc, line) {
         Ok(line) => say(state, world, Event::Shell(ShellEvent::Line(line))),
-        Err(_) => lack_memory(state, world),
+        Err(_) => refuse(state, world, Refusal::NoMemory),
     }
 }
 

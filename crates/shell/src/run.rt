@@ -6,10 +6,12 @@ ghost use Rattle.shell_world.specs.Scenes.{after, fresh, goes_on};
 ghost use Rattle.shell_world.specs.Written.{Does};
 ghost use Rattle.shell.specs.AskedViews.{asked_of};
 ghost use Rattle.shell.specs.Closing.{Closes, Runs, told_of};
+ghost use Rattle.shell.specs.Sound.{IsSoundStatus};
 ghost use Rattle.shell.specs.Sessions.{Fails, Session as SessionOf, SessionAsked, Starts, Treats, Turn, Turns, naming};
 
 use crate::asked::{Wanted, wanted_by};
 use crate::input::{DEPTH, do_input};
+use crate::laws::sound_sessions_end_well;
 use crate::lines::do_script;
 use crate::script::Script;
 use outside::{
@@ -275,8 +277,8 @@ pub fn run_shell<R: Source, F: Files, O: Sink, E: Sink, L: Ledger>(
     status
 }
 
-/// A session over objects that never fail, with nothing kept of what is written: it does not end
-/// with 4, the status of a sink that failed.
+/// A session over objects that never fail, with nothing kept of what is written: its status is 0, 1,
+/// 2 or 5, or 3 where the input passes a limit.
 pub fn run_sound<L: Ledger>(
     alloc: Global,
     words: &Words,
@@ -284,8 +286,9 @@ pub fn run_sound<L: Ledger>(
     files: &mut SoundFiles,
     steps: &mut Steps<L>,
 ) -> u8
-    ensures { result ≢ 4 }
+    ensures { IsSoundStatus input.old result }
 {
+    sound_sessions_end_well();
     run_shell(
         alloc,
         words,

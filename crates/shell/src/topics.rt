@@ -199,4 +199,5 @@ fn drop_model(state: &mut State)
     ensures { state.new ≡ without_model state.old }
 {
     state.model = None;
+    state.done = Phase::Start;
 }

@@ -1,5 +1,4 @@
 pub mod LogLemmas
 pub mod ModelLemmas
 pub mod TraceLemmas
-pub mod RefusedLaws
-pub mod PastKept
+pub mod Guarding

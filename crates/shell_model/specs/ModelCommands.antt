@@ -9,6 +9,7 @@ use Rattle.smv_tree.specs.declared.program.Program.{Program}
 use Rattle.bool_replay.specs.declared.load.ModelFault.{ModelFault}
 use Rattle.bool_replay.specs.declared.load.ModelFault.TheVariants as fault
 use Rattle.bool_replay.specs.Verdicts.{ModelOf}
+use Rattle.shell_world.specs.declared.phase.Phase.TheVariants.{Read}
 use Rattle.shell_world.specs.declared.refusal.Refusal.{Refusal}
 use Rattle.shell_world.specs.declared.refusal.Refusal.TheVariants as refusal
 use Rattle.shell_world.specs.declared.state.State.{State}
@@ -38,7 +39,11 @@ input_file state = at_name state.vars (codes "input_file")
 -- the session keeps this model, and the variable names its file
 abbrev pub with_read : List ℕ → Program → State → State
 with_read file program state =
-    record state { vars = with_name state.vars (codes "input_file") file; model = Some program }
+    record state {
+      vars = with_name state.vars (codes "input_file") file;
+      model = Some program;
+      done = Read;
+    }
 
 -- what is said of a text that is no model
 abbrev pub model_refusal : ModelFault → Refusal

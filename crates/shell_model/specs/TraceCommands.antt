@@ -10,6 +10,7 @@ use Rattle.bool_replay.specs.declared.verdict.Verdict.TheVariants as verdict
 use Rattle.bool_replay.specs.Verdicts.{Judges, ModelOf}
 use Rattle.shell_world.specs.declared.event.Event.TheVariants.{Trace}
 use Rattle.shell_world.specs.declared.trace_event.TraceEvent.TheVariants.{Executed, Stops}
+use Rattle.shell_world.specs.declared.phase.Phase.TheVariants.{Read}
 use Rattle.shell_world.specs.declared.refusal.Refusal.TheVariants as refusal
 use Rattle.shell_world.specs.declared.state.State.{State}
 use Rattle.shell_world.specs.Processes.{Becomes, ForSome, Knowing, MayLack, Process, Refuses, Says, Then, Where}
@@ -32,9 +33,9 @@ trace_help command.ExecuteTextTrace = codes "execute_text_trace [-c] file"
 abbrev pub trace_limit : ℕ
 trace_limit = 4194304
 
--- the session keeps this model
+-- the session keeps this model, which was read
 abbrev pub with_model : Program → State → State
-with_model program state = record state { model = Some program }
+with_model program state = record state { model = Some program; done = Read }
 
 abbrev pub TellsVerdict : Verdict → Process
 TellsVerdict (verdict.Executed n) = Says (Trace (Executed n))

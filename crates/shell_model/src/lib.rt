@@ -10,7 +10,7 @@ mod log_commands;
 mod model_commands;
 mod trace_commands;
 
-pub use laws::refused_command_changes_nothing;
+pub use laws::{commands_have_causes, refused_command_changes_nothing};
 pub use log_commands::{LOG_COMMANDS, LogCommand, do_log};
 pub use model_commands::{MODEL_COMMANDS, ModelCommand, do_model, set_input_file};
 pub use trace_commands::{TRACE_COMMANDS, TraceCommand, do_trace};

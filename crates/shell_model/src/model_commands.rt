@@ -100,6 +100,7 @@ fn keep_read<W: Outside>(
     match set_input_file(alloc, &mut state.vars, file) {
         Ok(()) => {
             state.model = Some(model);
+            state.done = Phase::Read;
             End::Went
         }
         Err(AllocError) => refuse(state, world, Refusal::NoMemory),

@@ -123,6 +123,7 @@ fn execute_on<W: Outside>(
         return end;
     }
     state.model = Some(model);
+    state.done = Phase::Read;
     End::Went
 }
 

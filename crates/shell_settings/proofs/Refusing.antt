@@ -1,5 +1,5 @@
--- A refused command of the settings leaves the session's state.
-use Rattle.std.proofs.Common.{ℕ, Bool, true, false, List, [], ◌∷◌}
+-- A refused command of the settings changes nothing.
+use Rattle.std.proofs.Common.{◌≡◌, ℕ, Bool, true, false, List, [], ◌∷◌, refl}
 use Rattle.std.specs.Prelude.{Option, None, Some}
 use Rattle.outside.specs.Number.{number_of}
 use Rattle.shell_lang.specs.declared.fault.LangFault.{LangFault}
@@ -11,61 +11,67 @@ use Rattle.shell_settings.specs.declared.settings.TheConstants.{ALIAS, HISTORY, 
 use Rattle.shell_settings.specs.Settings.{AliasesWith, Alters, DoesSettings, DropsAlias, ListsAlias, ListsAliases, ListsValues, RefusesOr, SetsWith, ShowsAlias, ShowsLast, ShowsLine, ShowsMost, ShowsNamed, ShowsValue, ShowsWith, TakesBack}
 use Rattle.shell_world.specs.declared.end.End.TheVariants as ends
 use Rattle.shell_world.specs.declared.state.State.{State}
-use Rattle.shell_world.specs.Keeping.{Keeps, KeepsRefused}
+use Rattle.shell_world.specs.Keeping.{Always, IsCaused, KeepsRefused}
 use Rattle.shell_world.specs.Processes.{Each}
 use Rattle.shell_world.specs.Scenes.{goes_along}
 use Rattle.shell_world.specs.Steps.{WithFirst}
-use Rattle.shell_world.proofs.Keeping.{becomes_goes, each_keeps, ends_keep, first_refused, kept_refused, knowing_keeps, knowing_refused, may_lack_keeps, may_lack_refused, row_refused, sayings_keep, whole}
+use Rattle.shell_world.proofs.Keeping.{Guards, Still, becomes_guards, each_leave, ends_leave, first_leave, guarded_caused, guarded_refused, guards_fact, knowing_leave, may_lack_leave, refuses_leave, row_leave, says_leave, still_fact}
 
 -- a change is made, or refused and not made
-alters_refused : (test : State → Bool) (fault : LangFault) (f : State → State) → KeepsRefused (Alters test fault f)
-alters_refused test fault f = may_lack_refused (knowing_refused (λ s. RefusesOr (test s) fault f) (λ s. by_test (test s)))
+alters_guard : (test : State → Bool) (fault : LangFault) (f : State → State) → ((s : State) → (f s).past ≡ s.past) → Always (Alters test fault f) Guards
+alters_guard test fault f k = may_lack_leave guards_fact (knowing_leave (λ s. RefusesOr (test s) fault f) (λ s. by_test (test s)))
   where
-    by_test : (t : Bool) → KeepsRefused (RefusesOr t fault f)
-    by_test true = kept_refused (sayings_keep whole _ _)
-    by_test false = becomes_goes f
+    by_test : (t : Bool) → Always (RefusesOr t fault f) Guards
+    by_test true = says_leave guards_fact _ _ refl refl
+    by_test false = becomes_guards f k
 
-values_keep : Keeps whole ListsValues
-values_keep = knowing_keeps whole (λ s. Each goes_along ShowsValue s.vars) (λ s. each_keeps whole goes_along ShowsValue s.vars (λ entry. may_lack_keeps whole (sayings_keep whole _ _)))
+values_leave : Always ListsValues Guards
+values_leave = knowing_leave (λ s. Each goes_along ShowsValue s.vars) (λ s. each_leave guards_fact goes_along ShowsValue s.vars (λ entry. may_lack_leave still_fact (says_leave still_fact _ _ refl refl)))
 
-aliases_keep : Keeps whole ListsAliases
-aliases_keep = knowing_keeps whole (λ s. Each goes_along ShowsAlias s.aliases) (λ s. each_keeps whole goes_along ShowsAlias s.aliases (λ entry. may_lack_keeps whole (sayings_keep whole _ _)))
+aliases_leave : Always ListsAliases Guards
+aliases_leave = knowing_leave (λ s. Each goes_along ShowsAlias s.aliases) (λ s. each_leave guards_fact goes_along ShowsAlias s.aliases (λ entry. may_lack_leave still_fact (says_leave still_fact _ _ refl refl)))
 
-named_keeps : (name : List ℕ) (found : Option (List (List ℕ))) → Keeps whole (ShowsNamed name found)
-named_keeps name (Some words) = may_lack_keeps whole (sayings_keep whole _ _)
-named_keeps name None = may_lack_keeps whole (sayings_keep whole _ _)
+named_leaves : (name : List ℕ) (found : Option (List (List ℕ))) → Always (ShowsNamed name found) Guards
+named_leaves name (Some words) = may_lack_leave guards_fact (says_leave guards_fact _ _ refl refl)
+named_leaves name None = refuses_leave guards_fact _ refl
 
-alias_keeps : (name : List ℕ) → Keeps whole (ListsAlias name)
-alias_keeps name = knowing_keeps whole (λ s. ShowsNamed name (at_name s.aliases name)) (λ s. named_keeps name (at_name s.aliases name))
+alias_leaves : (name : List ℕ) → Always (ListsAlias name) Guards
+alias_leaves name = knowing_leave (λ s. ShowsNamed name (at_name s.aliases name)) (λ s. named_leaves name (at_name s.aliases name))
 
-line_keeps : (number : ℕ) (line : Option (List ℕ)) → Keeps whole (ShowsLine number line)
-line_keeps number (Some line) = may_lack_keeps whole (sayings_keep whole _ _)
-line_keeps number None = ends_keep whole ends.Went
+line_leaves : (number : ℕ) (line : Option (List ℕ)) → Always (ShowsLine number line) Still
+line_leaves number (Some line) = may_lack_leave still_fact (says_leave still_fact _ _ refl refl)
+line_leaves number None = ends_leave still_fact ends.Went refl
 
-last_keeps : (most : ℕ) (past : Past) → Keeps whole (ShowsLast most past)
-last_keeps most past = each_keeps whole goes_along (λ number. ShowsLine number (line_of past number)) _ (λ number. line_keeps number (line_of past number))
+last_leaves : (most : ℕ) (past : Past) → Always (ShowsLast most past) Guards
+last_leaves most past = each_leave guards_fact goes_along (λ number. ShowsLine number (line_of past number)) _ (λ number. line_leaves number (line_of past number))
 
-most_keeps : (word : List ℕ) (most : Option ℕ) → Keeps whole (ShowsMost word most)
-most_keeps word (Some most) = knowing_keeps whole (λ s. ShowsLast most s.past) (λ s. last_keeps most s.past)
-most_keeps word None = may_lack_keeps whole (sayings_keep whole _ _)
+most_leaves : (word : List ℕ) (most : Option ℕ) → Always (ShowsMost word most) Guards
+most_leaves word (Some most) = knowing_leave (λ s. ShowsLast most s.past) (λ s. last_leaves most s.past)
+most_leaves word None = refuses_leave guards_fact _ refl
 
-shows_keep : (words : List (List ℕ)) → Keeps whole (ShowsWith words)
-shows_keep [] = knowing_keeps whole (λ s. ShowsLast s.past.count s.past) (λ s. last_keeps s.past.count s.past)
-shows_keep (word ∷ words) = most_keeps word (number_of word)
+shows_leave : (words : List (List ℕ)) → Always (ShowsWith words) Guards
+shows_leave [] = knowing_leave (λ s. ShowsLast s.past.count s.past) (λ s. last_leaves s.past.count s.past)
+shows_leave (word ∷ words) = most_leaves word (number_of word)
 
-sets_refused : (words : List (List ℕ)) → KeepsRefused (SetsWith words)
-sets_refused [] = kept_refused values_keep
-sets_refused (name ∷ []) = alters_refused _ _ _
-sets_refused (name ∷ value ∷ words) = alters_refused _ _ _
+sets_guard : (words : List (List ℕ)) → Always (SetsWith words) Guards
+sets_guard [] = values_leave
+sets_guard (name ∷ []) = alters_guard _ _ _ (λ s. refl)
+sets_guard (name ∷ value ∷ words) = alters_guard _ _ _ (λ s. refl)
 
-aliases_refused : (words : List (List ℕ)) → KeepsRefused (AliasesWith words)
-aliases_refused [] = kept_refused aliases_keep
-aliases_refused (name ∷ []) = kept_refused (alias_keeps name)
-aliases_refused (name ∷ word ∷ words) = alters_refused _ _ _
+aliases_guard : (words : List (List ℕ)) → Always (AliasesWith words) Guards
+aliases_guard [] = aliases_leave
+aliases_guard (name ∷ []) = alias_leaves name
+aliases_guard (name ∷ word ∷ words) = alters_guard _ _ _ (λ s. refl)
+
+settings_guard : (c : SettingsCommand) (words : List (List ℕ)) → Always (DoesSettings c words) Guards
+settings_guard command.Alias words = row_leave guards_fact ALIAS words (λ given. AliasesWith given.rest) (λ given. aliases_guard given.rest)
+settings_guard command.History words = row_leave guards_fact HISTORY words (λ given. ShowsWith given.rest) (λ given. shows_leave given.rest)
+settings_guard command.Set words = row_leave guards_fact SET words (λ given. SetsWith given.rest) (λ given. sets_guard given.rest)
+settings_guard command.Unalias words = row_leave guards_fact UNALIAS words (λ given. WithFirst DropsAlias given.rest) (λ given. first_leave guards_fact DropsAlias given.rest (λ name. alters_guard _ _ _ (λ s. refl)))
+settings_guard command.Unset words = row_leave guards_fact UNSET words (λ given. WithFirst TakesBack given.rest) (λ given. first_leave guards_fact TakesBack given.rest (λ name. alters_guard _ _ _ (λ s. refl)))
 
 pub settings_refused : (c : SettingsCommand) (words : List (List ℕ)) → KeepsRefused (DoesSettings c words)
-settings_refused command.Alias words = row_refused ALIAS words (λ given. AliasesWith given.rest) (λ given. aliases_refused given.rest)
-settings_refused command.History words = row_refused HISTORY words (λ given. ShowsWith given.rest) (λ given. kept_refused (shows_keep given.rest))
-settings_refused command.Set words = row_refused SET words (λ given. SetsWith given.rest) (λ given. sets_refused given.rest)
-settings_refused command.Unalias words = row_refused UNALIAS words (λ given. WithFirst DropsAlias given.rest) (λ given. first_refused DropsAlias given.rest (λ name. alters_refused _ _ _))
-settings_refused command.Unset words = row_refused UNSET words (λ given. WithFirst TakesBack given.rest) (λ given. first_refused TakesBack given.rest (λ name. alters_refused _ _ _))
+settings_refused c words = guarded_refused (settings_guard c words)
+
+pub settings_caused : (c : SettingsCommand) (words : List (List ℕ)) → Always (DoesSettings c words) IsCaused
+settings_caused c words = guarded_caused (settings_guard c words)

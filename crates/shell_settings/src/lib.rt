@@ -9,5 +9,5 @@ mod laws;
 mod past;
 mod settings;
 
-pub use laws::refused_setting_changes_nothing;
+pub use laws::{refused_setting_changes_nothing, settings_have_causes};
 pub use settings::{SETTINGS_COMMANDS, SettingsCommand, do_settings};

@@ -45,6 +45,15 @@ fn keeps_settings(rt: HostRuntime) -> Result<(), AllocError> {
             "set on_failure_script_quits 2\nnope\necho b",
             "b\nerror 636: on_failure_script_quits: illegal value\nerror 641: nope is no command\n0",
         ),
+        (
+            "set on_failure_script_quits 1\necho \"a\necho b",
+            "error 631: unclosed quote\n1",
+        ),
+        (
+            "set on_failure_script_quits 1\n!9\necho b",
+            "error 633: no such event\n1",
+        ),
+        ("history 0", "0"),
     ];
     for (input, want) in rows {
         let said = answer(alloc, input)?;
@@ -62,6 +71,7 @@ fn echoes_and_helps(rt: HostRuntime) -> Result<(), AllocError> {
         ("echo -2 a\necho b", "b\na\n0"),
         ("echo -o u a b\nsource u", "error 641: a is no command\n0"),
         ("echo -o u echo c\nsource u", "c\n0"),
+        ("echo -2 -o u echo c\nsource u", "c\n0"),
         ("echo -o u -n echo \"d e\"; source u", "d e\n0"),
         ("help echo", "echo [-2] [-n] [-o file] [words]\n0"),
         ("help nope", "error 641: nope is no command\n0"),

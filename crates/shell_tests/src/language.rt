@@ -127,6 +127,13 @@ fn runs_scripts(rt: HostRuntime) -> Result<(), AllocError> {
         ),
         ("", "echo a", "source -x s", "echo a\na\n0"),
         ("", "echo a", "source -p s", "NuSMV > a\n0"),
+        ("", "echo a", "source -p -x s", "NuSMV > echo a\na\n0"),
+        (
+            "",
+            "set on_failure_script_quits\nnope\necho a",
+            "source s\necho b",
+            "error 641: nope is no command\n1",
+        ),
         ("", "", "source -s u; echo a", "a\n0"),
         ("", "", "source u; echo a", "error 646: u: no such file\n0"),
         (

@@ -1,7 +1,7 @@
 -- The options of a command by its row, and what follows on them.
 use Rattle.std.proofs.Common.{◌≡◌, ◌⊎◌, ℕ, Bool, true, false, List, inl, inr, refl, ap, sym}
 use Rattle.std.proofs.lemmas.Bool.{true≢false}
-use Rattle.std.specs.Prelude.{Result, Ok, Err, alloc_error}
+use Rattle.std.specs.Prelude.{None, Some, Result, Ok, Err, alloc_error}
 use Rattle.cmd_table.specs.declared.fault.OptFault.{OptFault}
 use Rattle.cmd_table.specs.declared.fault.OptFault.TheVariants.{NoMemory}
 use Rattle.cmd_table.specs.declared.given.Given.{Given}
@@ -12,9 +12,9 @@ use Rattle.shell_world.specs.declared.refusal.Refusal.{Refusal}
 use Rattle.shell_world.specs.declared.refusal.Refusal.TheVariants as refusal
 use Rattle.shell_world.specs.declared.row.Row.{Row}
 use Rattle.shell_world.specs.declared.state.State.{State}
-use Rattle.shell_world.specs.Phases.{has_reached}
+use Rattle.shell_world.specs.Phases.{lacks}
 use Rattle.shell_world.specs.Processes.{Knowing, Process, Refuses, Where}
-use Rattle.shell_world.specs.Rows.{AfterRow, ByRow, Gives, WithRow, given_if}
+use Rattle.shell_world.specs.Rows.{AfterRow, ByRow, Gives, WithRow, given_unless}
 use Rattle.shell_world.specs.Scenes.{Moment}
 use Rattle.shell_world.specs.Texts.{refusal_number}
 use Rattle.shell_world.specs.Written.{Performs}
@@ -41,12 +41,12 @@ right_words row words given (inl o) = o
 right_words row words given (inr m) = absurd (true≢false (ap is_answer m))
 
 -- options were read, and the phase is reached
-pub row_given : {N : ℕ} (row : Row N) (words : List (List ℕ)) (state : State) (given : Given) → (Options row.table words (Ok given) ⊎ Lacks (Ok given)) → has_reached state row.needs ≡ true → Gives row words state (Ok given)
-row_given row words state given o reached = (Ok given, right_words row words given o, ap (λ b. given_if b (Ok given)) (sym reached))
+pub row_given : {N : ℕ} (row : Row N) (words : List (List ℕ)) (state : State) (given : Given) → (Options row.table words (Ok given) ⊎ Lacks (Ok given)) → lacks state row.needs ≡ None → Gives row words state (Ok given)
+row_given row words state given o reached = (Ok given, right_words row words given o, ap (λ lack. given_unless lack (Ok given)) (sym reached))
 
 -- it is not
-pub row_early : {N : ℕ} (row : Row N) (words : List (List ℕ)) (state : State) (given : Given) → (Options row.table words (Ok given) ⊎ Lacks (Ok given)) → has_reached state row.needs ≡ false → Gives row words state (Err refusal.NoModel)
-row_early row words state given o late = (Ok given, right_words row words given o, ap (λ b. given_if b (Ok given)) (sym late))
+pub row_early : {N : ℕ} (row : Row N) (words : List (List ℕ)) (state : State) (given : Given) (r : Refusal) → (Options row.table words (Ok given) ⊎ Lacks (Ok given)) → lacks state row.needs ≡ Some r → Gives row words state (Err r)
+row_early row words state given r o late = (Ok given, right_words row words given o, ap (λ lack. given_unless lack (Ok given)) (sym late))
 
 -- a word was wrong, or memory was refused
 pub row_wrong : {N : ℕ} (row : Row N) (words : List (List ℕ)) (state : State) (fault : OptFault) → (Options row.table words (Err fault) ⊎ Lacks (Err fault)) → (refusal_number (refusal.Options fault) ≡ 900) ⊎ Gives row words state (Err (refusal.Options fault))

@@ -1,20 +1,70 @@
--- What a process leaves as it was.
-use Rattle.std.specs.Prelude.{◌≡◌, List}
+-- What a process leaves as it was: where it is refused, and always.
+use Rattle.std.specs.Prelude.{◌≡◌, ◌<◌, ◌≤◌, ℕ, Bool, true, false, List}
+use Rattle.std.specs.List.{list_any}
+use Rattle.outside.specs.declared.source.LineFault.TheVariants.{ReadFault}
+use Rattle.outside.specs.Disk.{BreaksOff}
 use Rattle.shell_world.specs.declared.end.End.{End}
 use Rattle.shell_world.specs.declared.end.End.TheVariants as ends
 use Rattle.shell_world.specs.declared.event.Event.{Event}
-use Rattle.shell_world.specs.declared.state.State.{State}
+use Rattle.shell_world.specs.declared.event.Event.TheVariants as event
+use Rattle.shell_world.specs.declared.refusal.Refusal.TheVariants as refusal
 use Rattle.shell_world.specs.Processes.{Process}
 use Rattle.shell_world.specs.Scenes.{Scene}
 
--- a part of what the session keeps is as before, however it ends
-abbrev pub Keeps : {A : Type 0} → (State → A) → Process → Type 0
-Keeps part P =
-    (old : Scene) (events : List Event) (end : End) (new : Scene) → P old events end new
-    → part new.state ≡ part old.state
+-- all that the session keeps, the input and what the files hold is as before; of the files no more than
+-- the count of faults may have changed
+pub record IsKept (old new : Scene) : Type 0 where
+  pub state : new.state ≡ old.state
+  pub input : new.input ≡ old.input
+  pub held : new.disk.held ≡ old.disk.held
 
--- all that the session keeps is as before where it ends refused
+-- the same, but that the file of this name may have a front of the bytes that it was to have
+pub record IsKeptBut (name bytes : List ℕ) (old new : Scene) : Type 0 where
+  pub state : new.state ≡ old.state
+  pub input : new.input ≡ old.input
+  pub held : BreaksOff name bytes old.disk.held new.disk.held
+
+-- all is as before where a process ends refused
 abbrev pub KeepsRefused : Process → Type 0
 KeepsRefused P =
     (old : Scene) (events : List Event) (end : End) (new : Scene) → end ≡ ends.Refused
-    → P old events end new → new.state ≡ old.state
+    → P old events end new → IsKept old new
+
+-- all but a file is
+abbrev pub KeepsRefusedBut : List ℕ → List ℕ → Process → Type 0
+KeepsRefusedBut name bytes P =
+    (old : Scene) (events : List Event) (end : End) (new : Scene) → end ≡ ends.Refused
+    → P old events end new → IsKeptBut name bytes old new
+
+-- a fault of the files or of the input is told
+abbrev pub tells_fault : Event → Bool
+tells_fault (event.Refused (refusal.FileFault name)) = true
+tells_fault (event.Refused (refusal.Line ReadFault)) = true
+tells_fault other = false
+
+-- a count can rise no further
+abbrev pub last_count : ℕ
+last_count = 18446744073709551615
+
+-- an end that a command may have
+abbrev pub is_inner : End → Bool
+is_inner ends.Misused = false
+is_inner ends.InputFailed = false
+is_inner other = true
+
+-- a command reads no input, and a fault is told only where the count of the files rises
+pub record IsCaused (old : Scene) (events : List Event) (end : End) (new : Scene) : Type 0 where
+  pub input : new.input ≡ old.input
+  pub inner : is_inner end ≡ true
+  pub rises :
+      old.disk.faults ≤ last_count
+      → (old.disk.faults ≤ new.disk.faults) × (new.disk.faults ≤ last_count)
+  pub quiet :
+      old.disk.faults < last_count → new.disk.faults ≡ old.disk.faults
+      → list_any tells_fault events ≡ false
+
+-- each performance of a process has the fact
+abbrev pub Always : Process → Process → Type 0
+Always P R =
+    (old : Scene) (events : List Event) (end : End) (new : Scene)
+    → P old events end new → R old events end new

@@ -1,5 +1,5 @@
 -- The command of a word, and what the words behind it give by its row.
-use Rattle.std.specs.Prelude.{◌≡◌, ℕ, Bool, true, false, List, Option, Result, Ok, Err, find}
+use Rattle.std.specs.Prelude.{◌≡◌, ℕ, List, Option, Some, None, Result, Ok, Err, find}
 use Rattle.std.specs.Str.{bytes_eq}
 use Rattle.cmd_table.specs.declared.fault.OptFault.{OptFault}
 use Rattle.cmd_table.specs.declared.given.Given.{Given}
@@ -8,24 +8,24 @@ use Rattle.shell_world.specs.declared.refusal.Refusal.{Refusal}
 use Rattle.shell_world.specs.declared.refusal.Refusal.TheVariants as refusal
 use Rattle.shell_world.specs.declared.row.Row.{Row}
 use Rattle.shell_world.specs.declared.state.State.{State}
-use Rattle.shell_world.specs.Phases.{has_reached}
+use Rattle.shell_world.specs.Phases.{lacks}
 use Rattle.shell_world.specs.Processes.{ForSome, Knowing, MayLack, Process, Refuses, Where}
 
 -- the command of a word, among these
 abbrev pub with_word : {C : Type 0} → (C → List ℕ) → List C → List ℕ → Option C
 with_word word_of commands word = find (λ c. bytes_eq (word_of c) word) commands
 
--- options that were read are given once the phase is reached; a wrong word is refused before
-abbrev pub given_if : Bool → Result Given OptFault → Result Given Refusal
-given_if reached (Err fault) = Err (refusal.Options fault)
-given_if true (Ok given) = Ok given
-given_if false (Ok given) = Err refusal.NoModel
+-- options that were read are given where nothing is lacking; a wrong word is refused before
+abbrev pub given_unless : Option Refusal → Result Given OptFault → Result Given Refusal
+given_unless lack (Err fault) = Err (refusal.Options fault)
+given_unless None (Ok given) = Ok given
+given_unless (Some r) (Ok given) = Err r
 
 -- the words give this by the row, in this session
 abbrev pub Gives : {N : ℕ} → Row N → List (List ℕ) → State → Result Given Refusal → Type 0
 Gives row words state answer =
     (options : Result Given OptFault) × Options row.table words options
-    × (answer ≡ given_if (has_reached state row.needs) options)
+    × (answer ≡ given_unless (lacks state row.needs) options)
 
 -- what follows on what is given, if it is not refused
 abbrev pub AfterRow : (Given → Process) → Result Given Refusal → Process

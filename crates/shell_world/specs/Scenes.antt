@@ -11,11 +11,12 @@ use Rattle.shell_world.specs.declared.end.End.{End}
 use Rattle.shell_world.specs.declared.end.End.TheVariants as ends
 use Rattle.shell_world.specs.declared.end.Next.{Next}
 use Rattle.shell_world.specs.declared.end.Next.TheVariants.{Go, Stop}
+use Rattle.shell_world.specs.declared.phase.Phase.TheVariants.{Start}
 use Rattle.shell_world.specs.declared.state.State.{State}
 
 -- a session that was not told anything yet
 abbrev pub fresh : State
-fresh = record { vars = defaults; aliases = []; past = no_past; model = None }
+fresh = record { vars = defaults; aliases = []; past = no_past; model = None; done = Start }
 
 -- what the four objects outside tell, and which objects they are
 pub record Told : Type 0 where

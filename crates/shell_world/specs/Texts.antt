@@ -12,6 +12,7 @@ use Rattle.shell_world.specs.declared.event.Side.TheVariants.{Output, Errors}
 use Rattle.shell_world.specs.declared.refusal.Refusal.{Refusal}
 use Rattle.shell_world.specs.declared.refusal.Refusal.TheVariants as refusal
 use Rattle.shell_world.specs.LogTexts.{log_text}
+use Rattle.shell_world.specs.Phases.{phase_word}
 use Rattle.shell_world.specs.SettingsTexts.{settings_text}
 use Rattle.shell_world.specs.ShellTexts.{shell_side, shell_text}
 use Rattle.shell_world.specs.TraceTexts.{trace_text}
@@ -37,6 +38,7 @@ refusal_number refusal.TooDeep = 634
 refusal_number (refusal.NoCommand word) = 641
 refusal_number refusal.NoModel = 642
 refusal_number refusal.ModelIsThere = 643
+refusal_number (refusal.MustComeFirst phase) = 644
 refusal_number (refusal.NoFile name) = 646
 refusal_number (refusal.FileFault name) = 647
 refusal_number (refusal.FileTooLong name limit) = 648
@@ -60,6 +62,7 @@ refusal_said refusal.TooDeep = codes "more than 16 scripts are nested"
 refusal_said (refusal.NoCommand word) = word ++ codes " is no command"
 refusal_said refusal.NoModel = codes "no model"
 refusal_said refusal.ModelIsThere = codes "a model is already there"
+refusal_said (refusal.MustComeFirst phase) = phase_word phase ++ codes " must come first"
 refusal_said (refusal.NoFile name) = name ++ codes ": no such file"
 refusal_said (refusal.FileFault name) = name ++ codes ": file fault"
 refusal_said (refusal.FileTooLong name limit) = long_text name limit

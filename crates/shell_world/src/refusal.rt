@@ -2,6 +2,7 @@ ghost use Rattle.std.specs.Prelude.{◌≡◌, ◌++◌, codes};
 ghost use Rattle.outside.specs.Told.{Writes};
 ghost use Rattle.shell_world.specs.Texts.{long_text, no_value_text, refusal_number, refusal_said, refusal_text};
 
+use crate::Phase;
 use cmd_table::OptFault;
 use outside::{Failed, LineFault, Sink, Text, put_all, put_numbered, put_parts};
 use sat_log_text::LogFault;
@@ -31,6 +32,8 @@ pub enum Refusal {
     NoModel,
     /// A model was read already.
     ModelIsThere,
+    /// The command of this phase must come first.
+    MustComeFirst(Phase),
     /// No file has this name.
     NoFile(Text),
     /// The file store failed at this file.
@@ -76,6 +79,7 @@ impl Refusal {
             Refusal::NoCommand(_) => 641,
             Refusal::NoModel => 642,
             Refusal::ModelIsThere => 643,
+            Refusal::MustComeFirst(_) => 644,
             Refusal::NoFile(_) => 646,
             Refusal::FileFault(_) => 647,
             Refusal::FileTooLong(_, _) => 648,
@@ -104,6 +108,7 @@ impl Refusal {
             Refusal::NoCommand(word) => put_parts(out, &[word.as_slice(), b" is no command"]),
             Refusal::NoModel => put_all(out, b"no model"),
             Refusal::ModelIsThere => put_all(out, b"a model is already there"),
+            Refusal::MustComeFirst(phase) => put_parts(out, &[phase.word(), b" must come first"]),
             Refusal::NoFile(name) => put_parts(out, &[name.as_slice(), b": no such file"]),
             Refusal::FileFault(name) => put_parts(out, &[name.as_slice(), b": file fault"]),
             Refusal::FileTooLong(name, limit) => print_long(name.as_slice(), *limit, out),

@@ -67,7 +67,8 @@ pub fn put_words<C: Listed>(
 ///
 /// # Errors
 ///
-/// The refusal of a word, or else `NoModel` where the session has not reached the phase.
+/// The refusal of a word, or else what the session lacks: `NoModel` where no model was read, and
+/// `MustComeFirst` with the first phase that is missing.
 pub fn read_row<const N: usize>(
     alloc: Global,
     state: &State,
@@ -79,13 +80,10 @@ pub fn read_row<const N: usize>(
         (refusal_number refusal ≡ 900) ⊎ Gives row.now words.now state.now (Err refusal)) }
 {
     match read_options(alloc, &row.table, words) {
-        Ok(given) => {
-            if state.has_reached(row.needs) {
-                Ok(given)
-            } else {
-                Err(Refusal::NoModel)
-            }
-        }
+        Ok(given) => match state.lacks(row.needs) {
+            None => Ok(given),
+            Some(refusal) => Err(refusal),
+        },
         Err(fault) => Err(Refusal::Options(fault)),
     }
 }

@@ -1,7 +1,7 @@
 ghost use Rattle.std.specs.Prelude.{◌≡◌, IfOk};
 ghost use Rattle.shell_world.specs.Scenes.{is_set};
 
-use crate::{End, Next, Phase};
+use crate::{End, Next, Phase, Refusal};
 use bool_replay::BoolModel;
 use outside::read_number;
 use shell_lang::{Aliases, History, Vars};
@@ -18,6 +18,8 @@ pub struct State {
     pub past: History,
     /// The model, if it was read.
     pub model: Option<BoolModel>,
+    /// The last phase that was done with the model.
+    pub done: Phase,
 }
 
 /// Whether a variable's text says yes: it is empty, or the number 1.
@@ -34,7 +36,7 @@ fn is_set(text: &[u8]) -> bool
 }
 
 impl State {
-    ghost use Rattle.shell_world.specs.Phases.{has_reached, phase_of};
+    ghost use Rattle.shell_world.specs.Phases.{lacks, phase_of, too_early};
     ghost use Rattle.shell_world.specs.Scenes.{after, fresh, goes_along, goes_on, quits};
 
     /// A session that was not told anything yet.
@@ -50,24 +52,36 @@ impl State {
             aliases: Aliases::new(alloc)?,
             past: History::new(alloc)?,
             model: None,
+            done: Phase::Start,
         })
     }
 
     // The phase that the session is in.
     fn phase(&self) -> Phase
-        ensures { result ≡ phase_of self.now.model }
+        ensures { result ≡ phase_of self.now.model self.now.done }
     {
         match &self.model {
             None => Phase::Start,
-            Some(_) => Phase::ModelRead,
+            Some(_) => self.done,
         }
     }
 
-    /// Whether the session is in this phase, or in a later one.
-    pub fn has_reached(&self, needed: Phase) -> bool
-        ensures { result ≡ has_reached self.now needed }
+    // The refusal of a command for which this phase is the first that is missing.
+    fn too_early(&self, first: Phase) -> Refusal
+        ensures { result ≡ too_early self.now.model first }
     {
-        needed.rank() <= self.phase().rank()
+        match &self.model {
+            None => Refusal::NoModel,
+            Some(_) => Refusal::MustComeFirst(first),
+        }
+    }
+
+    /// What the session lacks for a command that needs a phase, if it has not reached it.
+    pub fn lacks(&self, needed: Phase) -> Option<Refusal>
+        ensures { result ≡ lacks self.now needed }
+    {
+        let first = self.phase().missing(needed)?;
+        Some(self.too_early(first))
     }
 
     // Whether a refused command ends the session.

@@ -1,0 +1,12 @@
+use Rattle.shell_world.proofs.Keeping.{guarded_caused}
+use Rattle.shell_model.proofs.Guarding.{log_guards, model_guards, trace_guards}
+use Rattle.shell_model.proofs.laws.commands_have_causes.Goals as goal
+
+pub returns-clause-log : goal.returns-clause-log
+returns-clause-log c = λ k words. guarded_caused (log_guards k words)
+
+pub returns-clause-model : goal.returns-clause-model
+returns-clause-model c = λ k words. guarded_caused (model_guards k words)
+
+pub returns-clause-trace : goal.returns-clause-trace
+returns-clause-trace c = λ k words. guarded_caused (trace_guards k words)
