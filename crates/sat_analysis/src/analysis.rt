@@ -21,6 +21,8 @@ pub struct Analysis {
     lits: Vec<SLit>,
     /// The last one first.
     hints: Vec<u64>,
+    /// The variables whose marks were taken away. Only the order of decisions depends on them.
+    met: Vec<u64>,
 }
 
 impl Model for Analysis {
@@ -74,6 +76,7 @@ impl Analysis {
             seen: vec![in alloc; false]?,
             lits: Vec::with_capacity(alloc, 3)?,
             hints: Vec::with_capacity(alloc, 3)?,
+            met: Vec::new(alloc),
         })
     }
 
@@ -104,6 +107,12 @@ impl Analysis {
     {
         self.lits.clear();
         self.hints.clear();
+        self.met.clear();
+    }
+
+    /// The variables that had a part in what was looked at last.
+    pub fn met(&self) -> &[u64] {
+        self.met.as_slice()
     }
 
     /// Takes away the mark of a variable, and answers whether there was one.
@@ -118,6 +127,10 @@ impl Analysis {
     {
         let marked = self.seen[var as usize];
         self.seen[var as usize] = false;
+        if marked {
+            // Where memory is refused, the variable has no part.
+            let _kept = self.met.push(var);
+        }
         marked
     }
 

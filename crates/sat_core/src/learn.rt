@@ -94,6 +94,7 @@ impl Search {
         let asserted = line.lits.as_slice()[0];
         let watcher = watch_two(&mut self.propagation, line.lits.as_slice())?;
         let id = append(&mut self.log, line)?;
+        self.trail.prefer(self.analysis.met());
         self.propagation.backjump(&mut self.trail, level);
         self.trail.imply(asserted, id);
         serve(&mut self.propagation, watcher, id);

@@ -6,6 +6,7 @@
 
 mod clause;
 pub mod laws;
+mod order;
 mod trail;
 
 pub use clause::clause_at;

@@ -7,6 +7,7 @@ ghost use Rattle.sat_log.specs.Clause.{Among, IsUnset};
 ghost use Rattle.sat_trail.specs.Trail.{literals, top, before, bottom, places, AreAllSet};
 ghost use Rattle.sat_trail.specs.Assignment.{assignment, AreTrue};
 
+use crate::order::Order;
 use sat_log::SLit;
 use std::alloc::{AllocError, Global};
 use std::marker::Model;
@@ -32,6 +33,7 @@ pub struct Trail {
     levels: Vec<u64>,
     reasons: Vec<Option<u64>>,
     trail: Vec<SLit>,
+    order: Order,
 }
 
 impl Model for Trail {
@@ -60,6 +62,7 @@ impl Trail {
             levels: vec![in alloc; 0]?,
             reasons: vec![in alloc; None]?,
             trail: Vec::with_capacity(alloc, 2)?,
+            order: Order::new(alloc)?,
         })
     }
 
@@ -121,8 +124,8 @@ impl Trail {
         }
     }
 
-    /// The first literal that is neither true nor false, with the negative sign.
-    pub fn unset(&self) -> Option<SLit>
+    /// The first literal that is neither true nor false.
+    fn first_unset(&self) -> Option<SLit>
         ensures exists { IfSome result (λ l. l.var ≤ self.now.variables) }
         ensures unset { IfSome result (IsUnset (literals self.now.entries)) }
         ensures none { IfNone result (AreAllSet self.now.variables (literals self.now.entries)) }
@@ -134,6 +137,46 @@ impl Trail {
             }
         }
         None
+    }
+
+    /// What the order advises, if it knows a variable without value.
+    fn advised(&mut self) -> Option<SLit>
+        ensures exists { IfSome result (λ l. l.var ≤ self.old.variables) }
+        ensures unset { IfSome result (IsUnset (literals self.old.entries)) }
+        ensures same { self.new ≡ self.old }
+    {
+        for _ in 0..self.variables {
+            let literal = self.order.candidate()?;
+            if literal.var() <= self.variables
+                && !self.is_true(literal)
+                && !self.is_true(literal.negated())
+            {
+                return Some(literal);
+            }
+            self.order.skip();
+        }
+        None
+    }
+
+    /// A literal that is neither true nor false: what its variable was last, or the negative one, of the variable that was
+    /// preferred last. Only where the order knows none all variables are looked at.
+    pub fn unset(&mut self) -> Option<SLit>
+        ensures exists { IfSome result (λ l. l.var ≤ self.old.variables) }
+        ensures unset { IfSome result (IsUnset (literals self.old.entries)) }
+        ensures none { IfNone result (AreAllSet self.old.variables (literals self.old.entries)) }
+        ensures same { self.new ≡ self.old }
+    {
+        match self.advised() {
+            Some(literal) => Some(literal),
+            None => self.first_unset(),
+        }
+    }
+
+    /// Prefers these variables, of which each has a value, from now on.
+    pub fn prefer(&mut self, variables: &[u64])
+        ensures { self.new ≡ self.old }
+    {
+        self.order.prefer(variables);
     }
 
     /// The value of each variable: that of an unset one is false.
@@ -169,6 +212,7 @@ impl Trail {
         self.levels.reserve(1)?;
         self.reasons.reserve(1)?;
         self.trail.reserve(self.truths.len() + 2)?;
+        self.order.add()?;
         self.truths.push_reserved(false);
         self.truths.push_reserved(false);
         self.levels.push_reserved(0);
@@ -244,6 +288,7 @@ impl Trail {
     {
         if let Some(literal) = self.trail.pop() {
             self.truths[literal.index()] = false;
+            self.order.release(literal);
         }
     }
 }

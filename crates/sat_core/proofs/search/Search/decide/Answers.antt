@@ -1,11 +1,12 @@
-use Rattle.std.proofs.Common.{◌≤◌, length, sym, subst}
+use Rattle.std.proofs.Common.{◌≡◌, ◌+◌, ◌≤◌, ◌∷◌, length, ap, sym, subst, ◌∙◌}
+use Rattle.std.specs.Prelude.{None}
 use Rattle.std.proofs.lemmas.Bool.{iff_false}
 use Rattle.sat_log.specs.Literal.{Literal}
 use Rattle.sat_log.specs.Clause.{Among, IsUnset}
 use Rattle.sat_log.specs.Accepted.{clauses}
 use Rattle.sat_log.specs.Checking.{IsUpTo}
 use Rattle.sat_log.proofs.LiteralLemmas.{All-among}
-use Rattle.sat_trail.specs.Trail.{literals}
+use Rattle.sat_trail.specs.Trail.{Trailed, literals, top}
 use Rattle.sat_trail.specs.Units.{AreQuiet}
 use Rattle.sat_core.specs.Search.{Searched}
 use Rattle.sat_trail.proofs.Levels.{top_length}
@@ -17,7 +18,8 @@ pub decide-requires-clause-level : goal.decide-requires-clause-level
 decide-requires-clause-level c = top_length c.self.inside.log c.self.inside.trail.entries c.self.invariant.0.trail_is
 
 pub decide-requires-in-Some-unset-clause-level : goal.decide-requires-in-Some-unset-clause-level
-decide-requires-in-Some-unset-clause-level c = top_length c.self.inside.log c.self.inside.trail.entries c.self.invariant.0.trail_is
+decide-requires-in-Some-unset-clause-level c =
+    subst (λ (t : Trailed). top t.entries ≤ length t.entries) (sym c.unset.ensures.same) (top_length c.self.inside.log c.self.inside.trail.entries c.self.invariant.0.trail_is)
 
 pub is_true-requires : goal.is_true-requires
 is_true-requires c =
@@ -41,6 +43,12 @@ invariant_of-self c =
 pub invariant_of-self-in-Some-unset : goal.invariant_of-self-in-Some-unset
 invariant_of-self-in-Some-unset c =
     let s = c.self.inside in
+    let t = c.decide-in-Some-unset.new.self in
+    let l = c.in-Some-unset.literal in
+    let same = c.unset.ensures.same in
     let quiet = subst (λ (v : Searched). AreQuiet (literals v.entries) (clauses v.log)) (sym c.self.view_is) c.requires.quiet in
     let all : length s.trail.entries ≤ s.propagation.looked = subst (λ (v : Searched). length v.entries ≤ v.looked) (sym c.self.view_is) c.requires.all in
-    (keeps_decision s.log s.trail c.decide-in-Some-unset.new.self s.analysis c.in-Some-unset.literal c.self.invariant.0 c.in-Some-unset.ensures.unset quiet c.decide-in-Some-unset.ensures.entries c.decide-in-Some-unset.ensures.variables, attached_decided s.log s.trail c.decide-in-Some-unset.new.self s.propagation s.attached s.refuted c.in-Some-unset.literal c.decide-in-Some-unset.ensures.variables c.decide-in-Some-unset.ensures.entries all c.self.invariant.1)
+    let entries : t.entries ≡ record { literal = l; level = top s.trail.entries + 1; reason = None } ∷ s.trail.entries =
+    c.decide-in-Some-unset.ensures.entries ∙ ap (λ (u : Trailed). record { literal = l; level = top u.entries + 1; reason = None } ∷ u.entries) same in
+    let variables : t.variables ≡ s.trail.variables = c.decide-in-Some-unset.ensures.variables ∙ ap (λ (u : Trailed). u.variables) same in
+    (keeps_decision s.log s.trail t s.analysis l c.self.invariant.0 c.in-Some-unset.ensures.unset quiet entries variables, attached_decided s.log s.trail t s.propagation s.attached s.refuted l variables entries all c.self.invariant.1)

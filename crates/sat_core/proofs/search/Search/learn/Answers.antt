@@ -1,4 +1,4 @@
-use Rattle.std.proofs.Common.{◌≡◌, ℕ, ◌≤◌, List, ◌∷◌, [], ◌++◌, length, get_or, ap, sym, subst, ◌∙◌}
+use Rattle.std.proofs.Common.{◌≡◌, ℕ, ◌+◌, ◌≤◌, List, ◌∷◌, [], ◌++◌, length, get_or, ap, sym, subst, ◌∙◌}
 use Rattle.std.proofs.lemmas.List.{append_cancel_left}
 use Rattle.std.specs.List.{AllByRecursion}
 use Rattle.sat_log.specs.Literal.{Literal}
@@ -6,7 +6,8 @@ use Rattle.sat_log.specs.Accepted.{Accepts}
 use Rattle.sat_log.specs.declared.line.LineKind.TheVariants.{Conflict}
 use Rattle.sat_log.specs.declared.line.LogLine.{LogLine}
 use Rattle.sat_watch.specs.Watched.{HasPlace}
-use Rattle.sat_trail.specs.Trail.{top}
+use Rattle.sat_trail.specs.Trail.{Trailed, top, before}
+use Rattle.sat_propagation.specs.Watching.{IsReady}
 use Rattle.sat_core.specs.Attached.{KeepsAttached, WatchesTwo}
 use Rattle.sat_core.specs.Search.{Searched, KeepsSearch, AskedFirst, AddsLearned, HasAsserted}
 use Rattle.sat_core.proofs.Attaching.{all_places}
@@ -14,6 +15,14 @@ use Rattle.sat_core.proofs.Asserted.{kept_watches}
 use Rattle.sat_core.proofs.Learned.{line_some, line_up_to, first_up_to, learned_unset, learned_keeps, learned_asserted, learned_asked, learned_clauses}
 use Rattle.sat_core.proofs.Learning.{drawn_up_to, line_accepted, keeps_marks, adds_learned}
 use Rattle.sat_core.proofs.search.Search.learn.Goals as goal
+use Rattle.sat_core.proofs.search.Search.learn.Goals.{After-backjump}
+
+-- the trail after the jump
+jumped : (c : After-backjump) → c.backjump.new.trail.entries ≡ before (c.jump_level-level.result + 1) c.self.inside.trail.entries
+jumped c = c.backjump.ensures.entries ∙ ap (λ (t : Trailed). before (c.jump_level-level.result + 1) t.entries) c.prefer.ensures
+
+as_many : (c : After-backjump) → c.backjump.new.trail.variables ≡ c.self.inside.trail.variables
+as_many c = c.backjump.ensures.variables ∙ ap (λ (t : Trailed). t.variables) c.prefer.ensures
 
 pub jump_level-level-requires : goal.jump_level-level-requires
 jump_level-level-requires c =
@@ -54,7 +63,7 @@ imply-requires-clause-exists c =
     let line = c.in_ok-line.line in
     let l = c.index-as_slice-0.result in
     let first : l ≡ get_or line.lits 0 l = subst (λ (ls : List Literal). l ≡ get_or ls 0 l) c.as_slice.ensures c.index-as_slice-0.is in
-    subst (λ (n : ℕ). l.var ≤ n) (sym c.backjump.ensures.variables)
+    subst (λ (n : ℕ). l.var ≤ n) (sym (as_many (goal.at.imply-requires-clause-exists c).After-backjump))
     (first_up_to s.trail.variables line.lits l (line_some s.trail a line c.in_ok-line.ensures c.analyze.ensures.asserting) first (line_up_to s.trail a line c.in_ok-line.ensures s.log s.trail.variables c.self.invariant.0.exist c.analyze.ensures.state))
 
 pub imply-requires-clause-unset : goal.imply-requires-clause-unset
@@ -65,7 +74,7 @@ imply-requires-clause-unset c =
     let first : l ≡ get_or line.lits 0 l = subst (λ (ls : List Literal). l ≡ get_or ls 0 l) c.as_slice.ensures c.index-as_slice-0.is in
     let above = subst (λ (v : Searched). 1 ≤ top v.entries) (sym c.self.view_is) c.requires.above in
     learned_unset s.log c.append.new.log s.trail c.backjump.new.trail s.analysis c.analyze.new.self c.jump_level-level.result c.in_ok-id.id line l
-    c.self.invariant.0 above c.analyze.ensures.state c.analyze.ensures.asserting c.analyze.ensures.size c.in_ok-line.ensures c.jump_level-level.ensures first c.in_ok-id.ensures.ok c.in_ok-id.ensures.id c.backjump.ensures.entries c.backjump.ensures.variables
+    c.self.invariant.0 above c.analyze.ensures.state c.analyze.ensures.asserting c.analyze.ensures.size c.in_ok-line.ensures c.jump_level-level.ensures first c.in_ok-id.ensures.ok c.in_ok-id.ensures.id (jumped (goal.at.imply-requires-clause-unset c).After-backjump) (as_many (goal.at.imply-requires-clause-unset c).After-backjump)
 
 pub invariant_of-self-2 : goal.invariant_of-self-2
 invariant_of-self-2 c =
@@ -82,11 +91,11 @@ invariant_of-self-2 c =
     let above = subst (λ (v : Searched). 1 ≤ top v.entries) (sym c.self.view_is) c.requires.above in
     let whole : s.attached ≡ length s.log = subst (λ (v : Searched). v.attached ≡ length v.log) (sym c.self.view_is) c.requires.attached in
     let watches = subst (λ (ls : List Literal). WatchesTwo s.propagation p ls c.in_ok-watcher.watcher) c.as_slice-2.ensures c.in_ok-watcher.ensures.ok in (
-      learned_keeps s.log log s.trail back s.analysis a jump id line l c.self.invariant.0 above c.analyze.ensures.state c.analyze.ensures.asserting c.analyze.ensures.size c.in_ok-line.ensures c.jump_level-level.ensures first c.in_ok-id.ensures.ok c.in_ok-id.ensures.id c.backjump.ensures.entries c.backjump.ensures.variables
+      learned_keeps s.log log s.trail back s.analysis a jump id line l c.self.invariant.0 above c.analyze.ensures.state c.analyze.ensures.asserting c.analyze.ensures.size c.in_ok-line.ensures c.jump_level-level.ensures first c.in_ok-id.ensures.ok c.in_ok-id.ensures.id (jumped (goal.at.invariant_of-self-2 c).After-backjump) (as_many (goal.at.invariant_of-self-2 c).After-backjump)
           c.imply.new.self c.imply.ensures.variables c.imply.ensures.entries,
-      learned_clauses s.log log s.trail back s.analysis a jump id line l c.self.invariant.0 above c.analyze.ensures.state c.analyze.ensures.asserting c.analyze.ensures.size c.in_ok-line.ensures c.jump_level-level.ensures first c.in_ok-id.ensures.ok c.in_ok-id.ensures.id c.backjump.ensures.entries c.backjump.ensures.variables
+      learned_clauses s.log log s.trail back s.analysis a jump id line l c.self.invariant.0 above c.analyze.ensures.state c.analyze.ensures.asserting c.analyze.ensures.size c.in_ok-line.ensures c.jump_level-level.ensures first c.in_ok-id.ensures.ok c.in_ok-id.ensures.id (jumped (goal.at.invariant_of-self-2 c).After-backjump) (as_many (goal.at.invariant_of-self-2 c).After-backjump)
           c.imply.new.self c.imply.ensures.variables c.imply.ensures.entries
-          s.propagation p c.backjump.new.self c.serve.new.propagation s.attached s.refuted c.in_ok-watcher.watcher c.self.invariant.1 whole watches c.backjump.ensures.watched c.backjump.ensures.ids (λ r. c.backjump.ensures.ready log r) c.serve.ensures,
+          s.propagation p c.backjump.new.self c.serve.new.propagation s.attached s.refuted c.in_ok-watcher.watcher c.self.invariant.1 whole watches c.backjump.ensures.watched c.backjump.ensures.ids (λ r. c.backjump.ensures.ready log (subst (λ (t : Trailed). IsReady log t p) (sym c.prefer.ensures) r)) c.serve.ensures,
     )
 
 pub returns-clause-ok : goal.returns-clause-ok
@@ -104,7 +113,7 @@ returns-clause-asked c want asked =
     let first : l ≡ get_or line.lits 0 l = subst (λ (ls : List Literal). l ≡ get_or ls 0 l) c.as_slice.ensures c.index-as_slice-0.is in
     let above = subst (λ (v : Searched). 1 ≤ top v.entries) (sym c.self.view_is) c.requires.above in
     learned_asked s.log c.append.new.log s.trail c.backjump.new.trail s.analysis c.analyze.new.self c.jump_level-level.result c.in_ok-id.id line l
-    c.self.invariant.0 above c.analyze.ensures.state c.analyze.ensures.asserting c.analyze.ensures.size c.in_ok-line.ensures c.jump_level-level.ensures first c.in_ok-id.ensures.ok c.in_ok-id.ensures.id c.backjump.ensures.entries c.backjump.ensures.variables
+    c.self.invariant.0 above c.analyze.ensures.state c.analyze.ensures.asserting c.analyze.ensures.size c.in_ok-line.ensures c.jump_level-level.ensures first c.in_ok-id.ensures.ok c.in_ok-id.ensures.id (jumped (goal.at.returns-clause-asked c).After-backjump) (as_many (goal.at.returns-clause-asked c).After-backjump)
     c.imply.new.self c.imply.ensures.variables c.imply.ensures.entries want (subst (λ (v : Searched). AskedFirst want v.entries) (sym c.self.view_is) asked)
 
 pub returns-clause-jump : goal.returns-clause-jump
@@ -120,5 +129,5 @@ returns-clause-jump c other same =
     subst (λ (x : LogLine). HasAsserted c.imply.new.self.entries x.lits (length c.append.new.log)) (sym one)
     (subst (HasAsserted c.imply.new.self.entries line.lits) c.in_ok-id.ensures.id
     (learned_asserted s.log c.append.new.log s.trail c.backjump.new.trail s.analysis c.analyze.new.self c.jump_level-level.result c.in_ok-id.id line l
-    c.self.invariant.0 above c.analyze.ensures.state c.analyze.ensures.asserting c.analyze.ensures.size c.in_ok-line.ensures c.jump_level-level.ensures first c.in_ok-id.ensures.ok c.in_ok-id.ensures.id c.backjump.ensures.entries c.backjump.ensures.variables
+    c.self.invariant.0 above c.analyze.ensures.state c.analyze.ensures.asserting c.analyze.ensures.size c.in_ok-line.ensures c.jump_level-level.ensures first c.in_ok-id.ensures.ok c.in_ok-id.ensures.id (jumped (goal.at.returns-clause-jump c).After-backjump) (as_many (goal.at.returns-clause-jump c).After-backjump)
     c.imply.new.self c.imply.ensures.variables c.imply.ensures.entries))
