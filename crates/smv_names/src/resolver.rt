@@ -1,109 +1,141 @@
 //! What paths of names stand for in each instance.
-//!
-//! Written, and not proved yet: the file is not part of the crate.
-ghost use Rattle.std.specs.Prelude.{◌≡◌, ℕ, Some, slice_get};
-ghost use Rattle.smv_tree.specs.Models.{bodies};
+ghost use Rattle.std.specs.Prelude.{◌≡◌, ℕ, List, Some, slice_get};
+ghost use Rattle.smv_tree.specs.Models.{Body};
 ghost use Rattle.smv_meaning.specs.Instances.{Instance, instances};
-ghost use Rattle.smv_meaning.specs.Names.{to_nothing, member_of, resolve};
+ghost use Rattle.smv_meaning.specs.Names.{resolve};
+ghost use Rattle.smv_names.specs.Lookups.{declared_at, parameter_at, item_target, target_behind, actual_at, outside_target, first_target, further_target, resolved};
 ghost use Rattle.smv_names.specs.Targets.{meant};
 ghost use Rattle.smv_names.specs.Ready.{IsReady};
 
-use crate::{Declared, Seat, Symbols, Table, Target};
+use crate::{Declared, Symbols, Table, Target};
 use indexmap::IndexMap;
 use smv_graph::Numbers;
-use smv_tree::{Name, Path, Program};
+use smv_tree::{Name, Path};
 
 /// The names of a module: its parameters, and what its items declare.
 #[derive(Drop)]
-pub struct ModuleNames {
-    pub parameters: Numbers,
-    pub items: Table,
+pub(crate) struct ModuleNames {
+    pub(crate) parameters: Numbers,
+    pub(crate) items: Table,
 }
 
-/// What the names in each instance of a program stand for.
+/// What the names in each instance of a program stand for. Instances are numbered in their order.
 #[derive(Drop)]
 pub struct Resolver {
-    modules: Vec<ModuleNames>,
-    seats: Vec<Seat>,
-    children: IndexMap<(usize, usize), usize>,
-    symbols: Symbols,
-    actuals: Vec<Vec<Target>>,
+    /// The names of each module.
+    pub(crate) modules: Vec<ModuleNames>,
+    /// The number of the module of each instance.
+    pub(crate) module_numbers: Vec<usize>,
+    /// The number of the instance that an item of an instance declares, by both.
+    pub(crate) children: IndexMap<(usize, usize), usize>,
+    /// The symbols of all enumerations.
+    pub(crate) symbols: Symbols,
+    /// What the actual of each parameter of an instance stands for.
+    pub(crate) actuals: Vec<Vec<Option<Target>>>,
 }
 
 impl Resolver {
-    /// The instance that an item of an instance declares.
-    fn child(&self, number: usize, item: usize) -> Target {
-        match self.children.get(&(number, item)) {
-            Some(child) => Target::Instance(*child),
-            None => Target::Nothing,
-        }
-    }
-
-    /// A symbol, or nothing.
-    fn symbol(&self, name: &Name) -> Target {
-        match self.symbols.get(name.as_slice()) {
-            Some(symbol) => Target::Symbol(symbol),
-            None => Target::Nothing,
-        }
-    }
-
-    /// What a name stands for behind an instance: a variable, an instance or a define of it, never a
-    /// parameter.
-    fn behind(&self, p: &Program, number: usize, name: &Name) -> Target
-        requires { IsReady (bodies p.now) self.now }
-        ensures { (i : Instance) → slice_get (instances (bodies p.now)) number ≡ Some i →
-            meant (bodies p.now) self.now.symbols result
-            ≡ Some (member_of i.path i.up name.now i.body.parts to_nothing) }
+    /// What the items of an instance declare by a name.
+    fn declared(&self, number: usize, name: &Name) -> Option<Declared>
+        ensures { result ≡ declared_at self.now number name.now }
     {
-        let seat = self.seats[number];
-        match self.modules[seat.module].items.get(name.as_slice()) {
-            Some(Declared::Variable(item)) => Target::Variable(number, item),
-            Some(Declared::Instance(item)) => self.child(number, item),
-            Some(Declared::Define(_, rank)) => Target::Definition(seat.defines + rank),
-            None => Target::Nothing,
+        let module = self.module_numbers.get(number)?;
+        let names = self.modules.get(*module)?;
+        names.items.get(name.as_slice())
+    }
+
+    /// The parameter of an instance that has a name.
+    fn parameter(&self, number: usize, name: &Name) -> Option<usize>
+        ensures { result ≡ parameter_at self.now number name.now }
+    {
+        let module = self.module_numbers.get(number)?;
+        let names = self.modules.get(*module)?;
+        names.parameters.get(name.as_slice())
+    }
+
+    /// What the name of an item of an instance stands for.
+    fn item_target(&self, number: usize, declared: Declared) -> Option<Target>
+        ensures { result ≡ item_target self.now number declared }
+    {
+        match declared {
+            Declared::Variable(item) => Some(Target::Variable(number, item)),
+            Declared::Define(item, _) => Some(Target::Define(number, item)),
+            Declared::Instance(item) => {
+                let child = self.children.get(&(number, item))?;
+                Some(Target::Instance(*child))
+            }
         }
     }
 
-    /// What a name stands for at the head of a path: a parameter, a declaration, `self`, or a symbol.
-    fn first(&self, p: &Program, number: usize, name: &Name) -> Target {
-        let seat = self.seats[number];
-        let module = &self.modules[seat.module];
-        match module.parameters.get(name.as_slice()) {
-            Some(parameter) => self.actuals[number][parameter],
-            None => match module.items.get(name.as_slice()) {
-                Some(_) => self.behind(p, number, name),
-                None => {
-                    if name.as_slice() == b"self".as_slice() {
-                        Target::Instance(number)
-                    } else {
-                        self.symbol(name)
-                    }
-                }
-            },
+    /// What a name stands for behind a target: a variable, an instance or a define of an instance.
+    fn behind(&self, target: Option<Target>, name: &Name) -> Option<Target>
+        ensures { result ≡ target_behind self.now target name.now }
+    {
+        let Some(Target::Instance(number)) = target else {
+            return None;
+        };
+        let declared = self.declared(number, name)?;
+        self.item_target(number, declared)
+    }
+
+    /// What the actual of a parameter of an instance stands for.
+    fn actual(&self, number: usize, parameter: usize) -> Option<Target>
+        ensures { result ≡ actual_at self.now number parameter }
+    {
+        let targets = self.actuals.get(number)?;
+        *targets.get(parameter)?
+    }
+
+    /// What a name stands for that an instance doesn't declare: the instance itself, or a symbol.
+    fn outside(&self, number: usize, name: &Name) -> Option<Target>
+        ensures { result ≡ outside_target self.now number name.now }
+    {
+        if name.as_slice() == b"self".as_slice() {
+            return Some(Target::Instance(number));
+        }
+        let symbol = self.symbols.get(name.as_slice())?;
+        Some(Target::Symbol(symbol))
+    }
+
+    /// What a name stands for at the head of a path.
+    fn first(&self, number: usize, name: &Name) -> Option<Target>
+        ensures { result ≡ first_target self.now number name.now }
+    {
+        if let Some(parameter) = self.parameter(number, name) {
+            return self.actual(number, parameter);
+        }
+        match self.declared(number, name) {
+            Some(declared) => self.item_target(number, declared),
+            None => self.outside(number, name),
         }
     }
 
     /// What further names stand for behind a target.
-    fn follow(&self, p: &Program, target: Target, names: &[Name]) -> Target {
+    fn further(&self, target: Option<Target>, names: &[Name]) -> Option<Target>
+        ensures { result ≡ further_target self.now target names.now }
+    {
         let mut target = target;
         for name in names {
-            target = match target {
-                Target::Instance(number) => self.behind(p, number, name),
-                _ => Target::Nothing,
-            };
+            target = self.behind(target, name);
         }
         target
     }
 
-    /// What a path of names stands for in the instance of a number.
-    pub fn resolve(&self, p: &Program, number: usize, path: &Path) -> Target
-        requires { IsReady (bodies p.now) self.now }
-        ensures { (i : Instance) → slice_get (instances (bodies p.now)) number ≡ Some i →
-            meant (bodies p.now) self.now.symbols result ≡ Some (resolve (bodies p.now) i.up path.now) }
+    /// What is found for a path of names in an instance.
+    fn found(&self, number: usize, path: &Path) -> Option<Target>
+        ensures { result ≡ resolved self.now number path.now }
     {
-        match path.as_slice().split_first() {
-            Some((name, further)) => self.follow(p, self.first(p, number, name), further),
-            None => Target::Nothing,
-        }
+        let (name, names) = path.as_slice().split_first()?;
+        self.further(self.first(number, name), names)
+    }
+
+    /// What a path of names stands for in the instance of a number, if it stands for something.
+    pub fn resolve(&self, number: usize, path: &Path) -> Option<Target>
+        ensures found { result ≡ resolved self.now number path.now }
+        ensures meant { (program : List Body) (i : Instance) → IsReady program self.now →
+            slice_get (instances program) number ≡ Some i →
+            meant program self.now.symbols result ≡ Some (resolve program i.up path.now) }
+    {
+        self.found(number, path)
     }
 }
