@@ -3,3 +3,4 @@ pub mod Gaining
 pub mod Rows
 pub mod Members
 pub mod Unknowns
+pub mod Resolving

@@ -95,3 +95,9 @@ module _ (path up : List (List ℕ)) (m : List ℕ) (whole : List Part) (other :
   members (assign o n p e ∷ parts) k r s f = members parts (k + 1) (r + 0) (rest (assign o n p e) parts k s) (same_rank parts r f)
   members (constraint o p e ∷ parts) k r s f = members parts (k + 1) (r + 0) (rest (constraint o p e) parts k s) (same_rank parts r f)
   members (property o p g ∷ parts) k r s f = members parts (k + 1) (r + 0) (rest (property o p g) parts k s) (same_rank parts r f)
+
+-- what the table of all items tells of a name
+pub told : (path up : List (List ℕ)) (m : List ℕ) (parts : List Part) (other : Target)
+    → Tells path up m parts other (lookup (bytes_eq m) (part_entries 0 0 parts)) (member_of path up m parts other)
+told path up m parts other =
+    members path up m parts other parts 0 0 (λ d. ap (slice_get parts) (omega arith)) (λ d. ap (slice_get (filter_map (define_of up) parts)) (omega arith))

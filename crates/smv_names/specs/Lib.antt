@@ -4,3 +4,7 @@ pub mod SymbolSets
 pub mod Branches
 pub mod Members
 pub mod Unknown
+pub mod Targets
+pub mod Lookups
+pub mod Whole
+pub mod Ready

@@ -10,14 +10,18 @@ mod declared;
 mod laws;
 mod parameters;
 mod references;
+mod resolver;
 mod symbols;
 mod table;
+mod target;
 mod unknown;
 
 pub use declared::Declared;
 pub use laws::tables_tell_members;
 pub use parameters::parameter_numbers;
 pub use references::{Lookup, with_references};
+pub use resolver::Resolver;
 pub use symbols::{Symbols, symbols_of};
 pub use table::{Table, item_table};
+pub use target::Target;
 pub use unknown::{Known, unknown_in, unknown_in_formula};
