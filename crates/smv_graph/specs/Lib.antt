@@ -1,2 +1,4 @@
 pub mod Graph
 pub mod Queues
+pub mod Arrows
+pub mod Distances

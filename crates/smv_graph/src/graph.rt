@@ -13,7 +13,7 @@ use std::marker::Model;
 /// number of the module of an instance variable, and nothing for other items and unknown modules.
 #[derive(Drop)]
 pub struct Graph {
-    rows: Vec<Vec<Option<usize>>>,
+    pub(crate) rows: Vec<Vec<Option<usize>>>,
 }
 
 impl Model for Graph {

@@ -3,8 +3,10 @@
 //! which modules another reaches, and which contain themselves.
 
 mod cycle;
+mod distances;
 mod graph;
 mod numbers;
+mod reversed;
 mod walks;
 
 pub use graph::Graph;
