@@ -4,3 +4,5 @@ pub mod Queues
 pub mod Named
 pub mod Arrows
 pub mod Sweeps
+pub mod Leasts
+pub mod FirstWalks

@@ -15,7 +15,7 @@ fn note(
 ) -> Result<(), AllocError>
     ensures { OnOk result (distances.new.entries
         ≡ (if is_some (lookup (nat_eq number) distances.old.entries) then distances.old.entries
-            else distances.old.entries ++ (number, distance) ∷ [])) }
+        else distances.old.entries ++ (number, distance) ∷ [])) }
 {
     match distances.get(&number) {
         Some(_) => Ok(()),

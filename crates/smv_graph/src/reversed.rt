@@ -7,11 +7,7 @@ use crate::Graph;
 use std::alloc::{AllocError, Global};
 
 /// Adds an arrow from a module to another.
-fn add_arrow(
-    rows: &mut Vec<Vec<Option<usize>>>,
-    from: usize,
-    to: usize,
-) -> Result<(), AllocError>
+fn add_arrow(rows: &mut Vec<Vec<Option<usize>>>, from: usize, to: usize) -> Result<(), AllocError>
     requires { from < length rows.old.items }
     ensures { OnOk result (AreAdded (map (λ r. r.items) rows.old.items)
         (λ a b. (a ≡ from) × (b ≡ to)) (map (λ r. r.items) rows.new.items)) }

@@ -1,4 +1,4 @@
-use Rattle.std.proofs.Common.{◌≡◌, ◌+◌, ◌<◌, ◌∙◌, length, map, take, sym, subst, arith}
+use Rattle.std.proofs.Common.{◌+◌, ◌∙◌, map, take, sym, subst, arith}
 use Rattle.std.specs.Prelude.{Contains, Some, None}
 use Rattle.std.proofs.lemmas.List.{length-map, take_all, get_or_default}
 use Rattle.smv_graph.specs.Arrows.{AreAdded, IsBack}

@@ -1,7 +1,7 @@
-use Rattle.std.proofs.Common.{◌≤◌, ◌<◌, length, map, subst, sym, arith}
+use Rattle.std.proofs.Common.{map, subst, arith}
 use Rattle.std.specs.Prelude.{Contains, Some}
 use Rattle.std.proofs.lemmas.List.{length-map}
-use Rattle.smv_graph.specs.Graph.{row_of, IsClosed}
+use Rattle.smv_graph.specs.Graph.{IsClosed}
 use Rattle.smv_graph.specs.Arrows.{AreAdded, IsBack}
 use Rattle.smv_graph.proofs.Arrows.{none_reversed, one_reversed, all_reversed, reversed_closed, targets_within}
 use Rattle.smv_graph.proofs.graph.Graph.reversed.Goals as goal
