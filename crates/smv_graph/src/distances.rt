@@ -1,4 +1,5 @@
-//! How far modules are from one to which they lead, by one sweep in breadth over the arrows the other way round.
+//! How far modules are from one to which they lead, by one sweep in breadth over the arrows the other
+//! way round.
 ghost use Rattle.std.specs.Prelude.{◌≡◌, ◌<◌, ◌++◌, ◌∷◌, [], ℕ, List, Some, is_some, if◌then◌else◌, nat_eq, length, slice_get, IfOk, OnOk};
 ghost use Rattle.std.specs.Map.{lookup};
 ghost use Rattle.smv_graph.specs.Distances.{AreDistances, AreNoted};

@@ -29,7 +29,7 @@ impl Graph {
         }
     }
 
-    /// The first of the shortest walks from a module back to it, of which so many modules stand between.
+    /// The first of the shortest walks from a module back to it, with so many modules between.
     fn walk_back(
         &self,
         alloc: Global,
@@ -55,7 +55,11 @@ impl Graph {
         Ok(between)
     }
 
-    /// The modules that stand between on the first of the shortest cycles through a module, if it is on one.
+    /// The first of the shortest cycles through a module, if it is on one: the modules between.
+    ///
+    /// # Errors
+    ///
+    /// `AllocError` where memory was refused.
     pub fn first_cycle(
         &self,
         alloc: Global,

@@ -1,7 +1,7 @@
 #![tactic(auto)]
 //! The modules of a model as a graph, in which each module leads to those of its instance variables:
-//! which modules another reaches, which contain themselves, and the first of the shortest cycles through one. Other
-//! things that lead to one another have a graph by their rows.
+//! which modules another reaches, which contain themselves, and the first of the shortest cycles through
+//! one. What else leads to one another has a graph by its rows.
 
 mod choice;
 mod cycle;
