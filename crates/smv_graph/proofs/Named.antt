@@ -98,7 +98,7 @@ module _ (program : List Body) where
   row_there : (a : ℕ) (b : Body) → slice_get program a ≡ Some b → row_of (graph_of program) a ≡ map (module_number program) b.parts
   row_there a b e = ap (list_of (λ row. row)) (slice_get-map (λ x. map (module_number program) x.parts) program a b e)
 
-  step_down : (m n : List ℕ) (a b : ℕ) → IsNumbered program m a → IsNumbered program n b → Instantiates program m n → Leads (graph_of program) a b
+  pub step_down : (m n : List ℕ) (a b : ℕ) → IsNumbered program m a → IsNumbered program n b → Instantiates program m n → Leads (graph_of program) a b
   step_down m n a b d e i =
       let l = located_at m a d in
       let c = subst (λ o. Contains (list_of (λ x. filter_map module_of x.parts) o) n) l.1.found i in
@@ -111,7 +111,7 @@ module _ (program : List Body) where
     | inr d ↦ (let r = from_row parts b d in (r.0, contains_later part parts r.0 r.1, r.2))
   ]
 
-  step_up : (m : List ℕ) (a b : ℕ) → IsNumbered program m a → Leads (graph_of program) a b → (n : List ℕ) × IsNumbered program n b × Instantiates program m n
+  pub step_up : (m : List ℕ) (a b : ℕ) → IsNumbered program m a → Leads (graph_of program) a b → (n : List ℕ) × IsNumbered program n b × Instantiates program m n
   step_up m a b d i =
       let l = located_at m a d in
       let r = from_row l.0.parts b (subst (λ row. Contains row (Some b)) (row_there a l.0 l.1.there) i) in

@@ -1,6 +1,6 @@
 ghost use Rattle.std.specs.Prelude.{◌≡◌, ◌<◌, ◌↔◌, ◌++◌, ◌⊎◌, ℕ, List, Contains, Some, None, map, length, slice_get, IfOk, OnOk};
 ghost use Rattle.smv_tree.specs.Models.{bodies, body_of, part_of};
-ghost use Rattle.smv_graph.specs.Graph.{graph_of, row_of, target_in, Reaches};
+ghost use Rattle.smv_graph.specs.Graph.{graph_of, row_of, target_in, Reaches, IsClosed};
 ghost use Rattle.smv_graph.specs.Queues.{IsAdded};
 
 use crate::numbers::{Numbers, module_numbers};
@@ -13,7 +13,7 @@ use std::marker::Model;
 /// number of the module of an instance variable, and nothing for other items and unknown modules.
 #[derive(Drop)]
 pub struct Graph {
-    rows: Vec<Vec<Option<usize>>>,
+    pub(crate) rows: Vec<Vec<Option<usize>>>,
 }
 
 impl Model for Graph {
@@ -109,6 +109,14 @@ impl Graph {
     {
         let rows = rows(alloc, p)?;
         Ok(Graph { rows })
+    }
+
+    /// The graph with these rows, of whatever leads to one another.
+    pub fn from_rows(rows: Vec<Vec<Option<usize>>>) -> Graph
+        requires { IsClosed (map (λ r. r.items) rows.items) }
+        ensures { result ≡ map (λ r. r.items) rows.items }
+    {
+        Graph { rows }
     }
 
     /// How many modules there are.

@@ -19,7 +19,7 @@ use Rattle.smv_modules.proofs.Reached.{number_reached, reached_number}
 use Rattle.smv_modules.proofs.Listing.{some_same}
 
 -- no place of a name is before the first
-first_from : (m : List ℕ) (i : ℕ) (bs : List Body) (j a : ℕ) → slice_get (map (λ b. b.name) bs) j ≡ Some m → position_from (λ b. bytes_eq b.name m) i bs ≡ Some a → a ≤ i + j
+pub first_from : (m : List ℕ) (i : ℕ) (bs : List Body) (j a : ℕ) → slice_get (map (λ b. b.name) bs) j ≡ Some m → position_from (λ b. bytes_eq b.name m) i bs ≡ Some a → a ≤ i + j
 first_from m i [] j a e f = absurd (cc)
 first_from m i (x ∷ bs) zero a e f =
     let same : x.name ≡ m = some_same x.name m e in
@@ -64,6 +64,7 @@ module _ (program : List Body) where
       record {
         first = l.0;
         there = l.1.there;
+        numbered = subst (λ n. IsNumbered program n k) (sym l.1.name) named.1;
         found = subst (λ n. find_body n program ≡ Some l.0) (sym l.1.name) l.1.found;
         through = record {
           number = k;

@@ -5,3 +5,4 @@ pub mod Counting
 pub mod Listing
 pub mod Rows
 pub mod Contained
+pub mod NamedCycles

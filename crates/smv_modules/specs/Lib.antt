@@ -9,3 +9,4 @@ pub mod Told
 pub mod Nodes
 pub mod Listed
 pub mod Contained
+pub mod CycleFaults

@@ -14,7 +14,7 @@ mod nodes;
 mod references;
 mod scope;
 
-pub use cycles::first_contained;
+pub use cycles::{first_contained, first_cycle_fault};
 pub use example::names_are_declared_twice;
 pub use instances::{Instance, Instances};
 pub use laws::doubled_names_are_declared_again;
