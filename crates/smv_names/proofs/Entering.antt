@@ -79,7 +79,7 @@ module _ {X : Type 0} where
   one_on g xs i x l at =
       ap (map g) (take_more xs i x l ∙ ap (λ y. take i xs ++ y ∷ []) (sym at)) ∙ map-append g (take i xs) (x ∷ [])
 
-  so_many : {Y : Type 0} (g : X → Y) (xs : List X) (i : ℕ) → i < length xs → length (map g (take i xs)) ≡ i
+  pub so_many : {Y : Type 0} (g : X → Y) (xs : List X) (i : ℕ) → i < length xs → length (map g (take i xs)) ≡ i
   so_many g xs i l = length-map (take i xs) g ∙ length-take-le i xs (omega arith)
 
   pub part_on : (g : X → Part) (xs : List X) (i d : ℕ) (x : X) (table now new : Entries) → i < length xs → x ≡ get_or xs i x → d ≡ defines_in (map g (take i xs))

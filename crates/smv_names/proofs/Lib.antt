@@ -4,3 +4,5 @@ pub mod Rows
 pub mod Members
 pub mod Unknowns
 pub mod Resolving
+pub mod TablesMade
+pub mod ActualsMade

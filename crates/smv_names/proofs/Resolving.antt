@@ -19,13 +19,14 @@ use Rattle.smv_names.specs.declared.declared.Declared.{Declared}
 use Rattle.smv_names.specs.declared.declared.Declared.TheVariants as declared
 use Rattle.smv_names.specs.declared.target.Target.{Target as Numbered}
 use Rattle.smv_names.specs.declared.target.Target.TheVariants as numbered
-use Rattle.smv_names.specs.declared.resolver.ModuleNames.{ModuleNames}
+use Rattle.smv_names.specs.declared.scopes.ModuleNames.{ModuleNames}
+use Rattle.smv_names.specs.declared.scopes.Scopes.{Scopes}
 use Rattle.smv_names.specs.declared.resolver.Resolver.{Resolver}
 use Rattle.smv_names.specs.Tables.{part_entries}
 use Rattle.smv_names.specs.Members.{Tells}
 use Rattle.smv_names.specs.Targets.{variable_of, define_of, meant}
 use Rattle.smv_names.specs.Lookups.{names_at, declared_at, parameter_at, item_target, target_behind, actual_at, outside_target, first_target, further_target, resolved}
-use Rattle.smv_names.specs.Ready.{AreNamesOf, IsModuleOf, actual_in, IsReadyBelow}
+use Rattle.smv_names.specs.Ready.{AreNamesOf, IsModuleOf, AreScopes, actual_in, IsReadyBelow}
 use Rattle.smv_names.proofs.Members.{told}
 
 pub zip_at : {A B : Type 0} (Q : A → B → Type 0) (xs : List A) (ys : List B) → AllZip Q xs ys → (k : ℕ) (x : A) → slice_get xs k ≡ Some x → (y : B) × (slice_get ys k ≡ Some y) × Q x y
@@ -51,7 +52,7 @@ same_names-refl : (xs : List (List ℕ)) → same_names xs xs ≡ true
 same_names-refl [] = refl
 same_names-refl (x ∷ xs) = ap (λ b. cond b (same_names xs xs) false) ((bytes_eq-Decides x x).1 refl) ∙ same_names-refl xs
 
-in_list : {A : Type 0} (xs : List A) (k : ℕ) → k < length xs → (x : A) × (slice_get xs k ≡ Some x)
+pub in_list : {A : Type 0} (xs : List A) (k : ℕ) → k < length xs → (x : A) × (slice_get xs k ≡ Some x)
 in_list [] k l = absurd (omega arith)
 in_list (x ∷ xs) zero l = (x, refl)
 in_list (x ∷ xs) (suc k) l = in_list xs k (omega arith)
@@ -99,6 +100,20 @@ then_dead : {X : Type 0} (f : X → Option Target) (o : Option X) (u : Target) �
 then_dead f None u d e = absurd (cc)
 then_dead f (Some x) u d e = d x e
 
+-- the names of the module of an instance
+module _ (program : List Body) (s : Scopes) (are : AreScopes program s) (n : ℕ) (i : Instance) (at : slice_get (instances program) n ≡ Some i) where
+  names : (ns : ModuleNames) × (names_at s n ≡ Some ns) × AreNamesOf i.body ns
+  names =
+      let number = zip_at (IsModuleOf program) (instances program) s.module_numbers.items are.numbers n i at in
+      let ns = zip_at AreNamesOf program s.modules.items are.modules number.0 i.body number.2 in
+      (ns.0, ap (option_and_then (slice_get s.modules.items)) number.1 ∙ ns.1, ns.2)
+
+  pub declared_by : (m : List ℕ) → declared_at s n m ≡ lookup (bytes_eq m) (part_entries 0 0 i.body.parts)
+  declared_by m = ap (option_and_then (λ (ns : ModuleNames). lookup (bytes_eq m) ns.items)) names.1 ∙ names.2.items m
+
+  pub parameter_by : (m : List ℕ) → parameter_at s n m ≡ position (λ f. bytes_eq f.name m) i.body.params
+  parameter_by m = ap (option_and_then (λ (ns : ModuleNames). lookup (bytes_eq m) ns.parameters)) names.1 ∙ names.2.parameters m
+
 module _ (program : List Body) (below : ℕ) (r : Resolver) (ready : IsReadyBelow program below r) where
   abbrev all : List Instance
   all = instances program
@@ -114,17 +129,8 @@ module _ (program : List Body) (below : ℕ) (r : Resolver) (ready : IsReadyBelo
       cc)
 
   module _ (n : ℕ) (i : Instance) (at : slice_get all n ≡ Some i) where
-    names : (ns : ModuleNames) × (names_at r n ≡ Some ns) × AreNamesOf i.body ns
-    names =
-        let number = zip_at (IsModuleOf program) all r.module_numbers.items ready.numbers n i at in
-        let ns = zip_at AreNamesOf program r.modules.items ready.modules number.0 i.body number.2 in
-        (ns.0, ap (option_and_then (slice_get r.modules.items)) number.1 ∙ ns.1, ns.2)
-
-    declared_is : (m : List ℕ) → declared_at r n m ≡ lookup (bytes_eq m) (part_entries 0 0 i.body.parts)
-    declared_is m = ap (option_and_then (λ (ns : ModuleNames). lookup (bytes_eq m) ns.items)) names.1 ∙ names.2.items m
-
-    parameter_is : (m : List ℕ) → parameter_at r n m ≡ position (λ f. bytes_eq f.name m) i.body.params
-    parameter_is m = ap (option_and_then (λ (ns : ModuleNames). lookup (bytes_eq m) ns.parameters)) names.1 ∙ names.2.parameters m
+    declared_is : (m : List ℕ) → declared_at r.scopes n m ≡ lookup (bytes_eq m) (part_entries 0 0 i.body.parts)
+    declared_is = declared_by program r.scopes ready.scopes n i at
 
     item_means : (m : List ℕ) (d : Declared) (other t : Target) → lookup (bytes_eq m) (part_entries 0 0 i.body.parts) ≡ Some d → Tells i.path i.up m i.body.parts other (Some d) t → Means (item_target r n d) t
     item_means m (declared.Variable k) other t e tells =
@@ -171,7 +177,7 @@ module _ (program : List Body) (below : ℕ) (r : Resolver) (ready : IsReadyBelo
 
     first_means : n < below → (m : List ℕ) → Means (first_target r n m) (first_meant program (actual_in program i.up) i m)
     first_means l m =
-        ap (λ o. meant program r.symbols (elim o [ Some k ↦ actual_at r n k | None ↦ elim (declared_at r n m) [ Some d ↦ item_target r n d | None ↦ outside_target r n m ] ])) (parameter_is m)
+        ap (λ o. meant program r.symbols (elim o [ Some k ↦ actual_at r n k | None ↦ elim (declared_at r.scopes n m) [ Some d ↦ item_target r n d | None ↦ outside_target r n m ] ])) (parameter_by program r.scopes ready.scopes n i at m)
         ∙ by_parameter (position (λ (f : Formal). bytes_eq f.name m) i.body.params) refl
       where
         other : Target
@@ -189,7 +195,7 @@ module _ (program : List Body) (below : ℕ) (r : Resolver) (ready : IsReadyBelo
         given k (Some x) e h = ready.actuals n k i x l at e
 
         by_parameter : (o : Option ℕ) → position (λ (f : Formal). bytes_eq f.name m) i.body.params ≡ o
-            → Means (elim o [ Some k ↦ actual_at r n k | None ↦ elim (declared_at r n m) [ Some d ↦ item_target r n d | None ↦ outside_target r n m ] ])
+            → Means (elim o [ Some k ↦ actual_at r n k | None ↦ elim (declared_at r.scopes n m) [ Some d ↦ item_target r n d | None ↦ outside_target r n m ] ])
             (elim o [ Some k ↦ or_else (elim (slice_get i.actuals k) [ Some e ↦ Some (actual_in program i.up e) | None ↦ None ]) to_nothing | None ↦ t ])
         by_parameter (Some k) e =
             let owner : Formal = record { name = []; place = record { line = 0; column = 0 } } in

@@ -6,5 +6,6 @@ pub mod Members
 pub mod Unknown
 pub mod Targets
 pub mod Lookups
+pub mod Declaring
 pub mod Whole
 pub mod Ready

@@ -6,29 +6,31 @@ use Rattle.smv_names.specs.declared.declared.Declared.{Declared}
 use Rattle.smv_names.specs.declared.declared.Declared.TheVariants as declared
 use Rattle.smv_names.specs.declared.target.Target.{Target}
 use Rattle.smv_names.specs.declared.target.Target.TheVariants as target
-use Rattle.smv_names.specs.declared.resolver.ModuleNames.{ModuleNames}
+use Rattle.smv_names.specs.declared.scopes.ModuleNames.{ModuleNames}
+use Rattle.smv_names.specs.declared.scopes.Scopes.{Scopes}
 use Rattle.smv_names.specs.declared.resolver.Resolver.{Resolver}
 
 -- the names of the module of an instance
-abbrev pub names_at : Resolver → ℕ → Option ModuleNames
-names_at r n = option_and_then (slice_get r.modules.items) (slice_get r.module_numbers.items n)
+abbrev pub names_at : Scopes → ℕ → Option ModuleNames
+names_at s n = option_and_then (slice_get s.modules.items) (slice_get s.module_numbers.items n)
 
-abbrev pub declared_at : Resolver → ℕ → List ℕ → Option Declared
-declared_at r n m = option_and_then (λ names. lookup (bytes_eq m) names.items) (names_at r n)
+abbrev pub declared_at : Scopes → ℕ → List ℕ → Option Declared
+declared_at s n m = option_and_then (λ names. lookup (bytes_eq m) names.items) (names_at s n)
 
-abbrev pub parameter_at : Resolver → ℕ → List ℕ → Option ℕ
-parameter_at r n m = option_and_then (λ names. lookup (bytes_eq m) names.parameters) (names_at r n)
+abbrev pub parameter_at : Scopes → ℕ → List ℕ → Option ℕ
+parameter_at s n m = option_and_then (λ names. lookup (bytes_eq m) names.parameters) (names_at s n)
 
-abbrev pub child_at : Resolver → ℕ → ℕ → Option ℕ
-child_at r n k = lookup (λ key. (n == key.0) && (k == key.1)) r.children.entries
+-- the instance that an item of an instance declares
+abbrev pub child_in : List ((ℕ × ℕ) × ℕ) → ℕ → ℕ → Option ℕ
+child_in children n k = lookup (λ key. (n == key.0) && (k == key.1)) children
 
 abbrev pub item_target : Resolver → ℕ → Declared → Option Target
 item_target r n (declared.Variable k) = Some (target.Variable n k)
 item_target r n (declared.Define k rank) = Some (target.Define n k)
-item_target r n (declared.Instance k) = option_map target.Instance (child_at r n k)
+item_target r n (declared.Instance k) = option_map target.Instance (child_in r.children.entries n k)
 
 abbrev pub target_behind : Resolver → Option Target → List ℕ → Option Target
-target_behind r (Some (target.Instance n)) m = option_and_then (item_target r n) (declared_at r n m)
+target_behind r (Some (target.Instance n)) m = option_and_then (item_target r n) (declared_at r.scopes n m)
 target_behind r _ m = None
 
 abbrev pub actual_at : Resolver → ℕ → ℕ → Option Target
@@ -43,9 +45,9 @@ outside_target r n m =
 
 abbrev pub first_target : Resolver → ℕ → List ℕ → Option Target
 first_target r n m =
-    elim (parameter_at r n m) [
+    elim (parameter_at r.scopes n m) [
       | Some k ↦ actual_at r n k
-      | None ↦ elim (declared_at r n m) [ Some d ↦ item_target r n d | None ↦ outside_target r n m ]
+      | None ↦ elim (declared_at r.scopes n m) [ Some d ↦ item_target r n d | None ↦ outside_target r n m ]
     ]
 
 abbrev pub further_target : Resolver → Option Target → List (List ℕ) → Option Target

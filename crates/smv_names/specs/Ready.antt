@@ -10,12 +10,13 @@ use Rattle.smv_meaning.specs.Names.{Target, to_nothing, names_symbol, resolve, a
 use Rattle.smv_meaning.specs.Rows.{IsNumber}
 use Rattle.smv_names.specs.declared.declared.Declared.TheVariants as declared
 use Rattle.smv_names.specs.declared.target.Target.{Target as Numbered}
-use Rattle.smv_names.specs.declared.resolver.ModuleNames.{ModuleNames}
+use Rattle.smv_names.specs.declared.scopes.ModuleNames.{ModuleNames}
+use Rattle.smv_names.specs.declared.scopes.Scopes.{Scopes}
 use Rattle.smv_names.specs.declared.resolver.Resolver.{Resolver}
 use Rattle.smv_names.specs.Tables.{AreSame, part_entries}
 use Rattle.smv_names.specs.SymbolSets.{has}
 use Rattle.smv_names.specs.Targets.{meant}
-use Rattle.smv_names.specs.Lookups.{child_at, actual_at}
+use Rattle.smv_names.specs.Lookups.{child_in, actual_at}
 use Rattle.smv_names.specs.Whole.{IsWhole}
 
 -- the names of a module
@@ -49,13 +50,18 @@ AreActuals program symbols below target = (n k : ℕ) (i : Instance) (e : Tree) 
 abbrev pub AreSymbols : List Body → List (List ℕ) → Type 0
 AreSymbols program symbols = (m : List ℕ) → has symbols m ≡ list_any (λ b. list_any (names_symbol m) b.parts) program
 
+-- the names of the modules of a program, and the modules of its instances
+pub record AreScopes (program : List Body) (s : Scopes) : Type 0 where
+  pub modules : AllZip AreNamesOf program s.modules.items
+  pub numbers : AllZip (IsModuleOf program) (instances program) s.module_numbers.items
+
 -- the tables of a program, with the actual parameters of the instances below this number
 pub record IsReadyBelow (program : List Body) (below : ℕ) (r : Resolver) : Type 0 where
   pub whole : IsWhole program
-  pub modules : AllZip AreNamesOf program r.modules.items
-  pub numbers : AllZip (IsModuleOf program) (instances program) r.module_numbers.items
-  pub children : AreChildren program (child_at r)
+  pub scopes : AreScopes program r.scopes
+  pub children : AreChildren program (child_in r.children.entries)
   pub symbols : AreSymbols program r.symbols
+  pub counted : length r.actuals.items ≡ below
   pub actuals : AreActuals program r.symbols below (actual_at r)
 
 abbrev pub IsReady : List Body → Resolver → Type 0

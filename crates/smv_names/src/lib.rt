@@ -6,11 +6,14 @@
 //! The first of a name counts, as `smv_meaning` has it, and a look-up costs no more than the name's
 //! length.
 
+mod children;
 mod declared;
 mod laws;
+mod making;
 mod parameters;
 mod references;
 mod resolver;
+mod scopes;
 mod symbols;
 mod table;
 mod target;

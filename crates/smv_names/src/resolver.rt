@@ -3,29 +3,20 @@ ghost use Rattle.std.specs.Prelude.{◌≡◌, ℕ, List, Some, slice_get};
 ghost use Rattle.smv_tree.specs.Models.{Body};
 ghost use Rattle.smv_meaning.specs.Instances.{Instance, instances};
 ghost use Rattle.smv_meaning.specs.Names.{resolve};
-ghost use Rattle.smv_names.specs.Lookups.{declared_at, parameter_at, item_target, target_behind, actual_at, outside_target, first_target, further_target, resolved};
+ghost use Rattle.smv_names.specs.Lookups.{item_target, target_behind, actual_at, outside_target, first_target, further_target, resolved};
 ghost use Rattle.smv_names.specs.Targets.{meant};
 ghost use Rattle.smv_names.specs.Ready.{IsReady};
 
-use crate::{Declared, Symbols, Table, Target};
+use crate::scopes::Scopes;
+use crate::{Declared, Symbols, Target};
 use indexmap::IndexMap;
-use smv_graph::Numbers;
 use smv_tree::{Name, Path};
-
-/// The names of a module: its parameters, and what its items declare.
-#[derive(Drop)]
-pub(crate) struct ModuleNames {
-    pub(crate) parameters: Numbers,
-    pub(crate) items: Table,
-}
 
 /// What the names in each instance of a program stand for. Instances are numbered in their order.
 #[derive(Drop)]
 pub struct Resolver {
-    /// The names of each module.
-    pub(crate) modules: Vec<ModuleNames>,
-    /// The number of the module of each instance.
-    pub(crate) module_numbers: Vec<usize>,
+    /// The names that each instance declares.
+    pub(crate) scopes: Scopes,
     /// The number of the instance that an item of an instance declares, by both.
     pub(crate) children: IndexMap<(usize, usize), usize>,
     /// The symbols of all enumerations.
@@ -35,24 +26,6 @@ pub struct Resolver {
 }
 
 impl Resolver {
-    /// What the items of an instance declare by a name.
-    fn declared(&self, number: usize, name: &Name) -> Option<Declared>
-        ensures { result ≡ declared_at self.now number name.now }
-    {
-        let module = self.module_numbers.get(number)?;
-        let names = self.modules.get(*module)?;
-        names.items.get(name.as_slice())
-    }
-
-    /// The parameter of an instance that has a name.
-    fn parameter(&self, number: usize, name: &Name) -> Option<usize>
-        ensures { result ≡ parameter_at self.now number name.now }
-    {
-        let module = self.module_numbers.get(number)?;
-        let names = self.modules.get(*module)?;
-        names.parameters.get(name.as_slice())
-    }
-
     /// What the name of an item of an instance stands for.
     fn item_target(&self, number: usize, declared: Declared) -> Option<Target>
         ensures { result ≡ item_target self.now number declared }
@@ -74,7 +47,7 @@ impl Resolver {
         let Some(Target::Instance(number)) = target else {
             return None;
         };
-        let declared = self.declared(number, name)?;
+        let declared = self.scopes.declared(number, name)?;
         self.item_target(number, declared)
     }
 
@@ -101,10 +74,10 @@ impl Resolver {
     fn first(&self, number: usize, name: &Name) -> Option<Target>
         ensures { result ≡ first_target self.now number name.now }
     {
-        if let Some(parameter) = self.parameter(number, name) {
+        if let Some(parameter) = self.scopes.parameter(number, name) {
             return self.actual(number, parameter);
         }
-        match self.declared(number, name) {
+        match self.scopes.declared(number, name) {
             Some(declared) => self.item_target(number, declared),
             None => self.outside(number, name),
         }
