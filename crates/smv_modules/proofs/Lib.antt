@@ -6,3 +6,4 @@ pub mod Listing
 pub mod Rows
 pub mod Contained
 pub mod NamedCycles
+pub mod Passed

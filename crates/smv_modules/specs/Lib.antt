@@ -10,3 +10,4 @@ pub mod Nodes
 pub mod Listed
 pub mod Contained
 pub mod CycleFaults
+pub mod Passes

@@ -1,10 +1,12 @@
 #![tactic(auto)]
-//! The modules of a model before any expression is typed: whether each name is declared once, and
-//! whether the modules that `main` reaches refer to modules that are there.
+//! The modules of a model before any expression is typed: whether each name is declared once, whether
+//! the modules that `main` reaches refer to modules that are there and none contains itself, and the
+//! instances of the model.
 //!
-//! Each pass has the list of its faults in `specs`, and answers the first of them. Where all is right, the
-//! instances of the model are listed. That needs that no module contains itself, which `first_contained` tells.
+//! Each pass has the list of its faults in `specs`, and answers the first of them. `check_modules` goes through
+//! the passes, and gives the instances where all is right.
 
+mod check;
 mod cycles;
 mod example;
 mod instances;
@@ -14,6 +16,7 @@ mod nodes;
 mod references;
 mod scope;
 
+pub use check::check_modules;
 pub use cycles::{first_contained, first_cycle_fault};
 pub use example::names_are_declared_twice;
 pub use instances::{Instance, Instances};
