@@ -6,3 +6,4 @@ pub mod Unknowns
 pub mod Resolving
 pub mod TablesMade
 pub mod ActualsMade
+pub mod KnownNames

@@ -70,35 +70,60 @@ symbol_from m i all (x ∷ xs) h = by_test (bytes_eq m x) refl (symbol_from m (i
         ap (option_map to_symbol) (ap (slice_get all) (omega arith) ∙ sym (h 0)) ∙ ap (λ y. Some (to_symbol y)) (sym ((bytes_eq-Decides m x).0 e))
     by_test false e rest = rest
 
--- a target behind which no name stands for anything
-abbrev Dead : Target → Type 0
-Dead t = (all : List Instance) (m : List ℕ) (ms : List (List ℕ)) → follow all t (m ∷ ms) ≡ to_nothing
+then_is : {X G : Type 0} (f : X → Option Target) (o : Option X) (u : Target) → ((x : X) → f x ≡ Some u → G) → option_and_then f o ≡ Some u → G
+then_is f None u h e = absurd (cc)
+then_is f (Some x) u h e = h x e
 
-same_dead : (t u : Target) → Some t ≡ Some u → Dead t → Dead u
-same_dead t u e d = λ all m ms. let same : t ≡ u = cc in subst (λ w. follow all w (m ∷ ms) ≡ to_nothing) same (d all m ms)
+map_is : {X G : Type 0} (f : X → Target) (o : Option X) (u : Target) → ((x : X) → o ≡ Some x → Some (f x) ≡ Some u → G) → option_map f o ≡ Some u → G
+map_is f None u h e = absurd (cc)
+map_is f (Some x) u h e = h x refl e
 
-variable_dead : (i : Instance) (part : Part) (u : Target) → variable_of i part ≡ Some u → Dead u
-variable_dead i (variable kind m p (plain type q)) u e = same_dead (to_variable (i.path ++ m ∷ [])) u e (λ all n ns. refl)
-variable_dead i (variable kind m p (instance b q es)) u e = absurd (cc)
-variable_dead i (define m p x) u e = absurd (cc)
-variable_dead i (assign o m p x) u e = absurd (cc)
-variable_dead i (constraint o p x) u e = absurd (cc)
-variable_dead i (property o p x) u e = absurd (cc)
+-- what holds of each kind of target and of what it stands for
+module _ (P : Option Numbered → Target → Type 0) (program : List Body) (symbols : List (List ℕ)) where
+  pub record OfEachKind : Type 0 where
+    pub nothing : P None to_nothing
+    pub a_variable : (n k : ℕ) (path : List (List ℕ)) → P (Some (numbered.Variable n k)) (to_variable path)
+    pub a_define : (n k : ℕ) (up : List (List ℕ)) (e : Tree) → P (Some (numbered.Define n k)) (to_body up e)
+    pub a_parameter : (n k : ℕ) (up : List (List ℕ)) (e : Tree) → P (Some (numbered.Parameter n k)) (to_body up e)
+    pub a_instance : (n : ℕ) (i : Instance) → slice_get (instances program) n ≡ Some i → P (Some (numbered.Instance n)) (to_instance i.up)
+    pub a_symbol : (k : ℕ) (m : List ℕ) → P (Some (numbered.Symbol k)) (to_symbol m)
 
-define_dead : (i : Instance) (part : Part) (u : Target) → define_of i part ≡ Some u → Dead u
-define_dead i (variable kind m p t) u e = absurd (cc)
-define_dead i (define m p x) u e = same_dead (to_body i.up x) u e (λ all n ns. refl)
-define_dead i (assign o m p x) u e = absurd (cc)
-define_dead i (constraint o p x) u e = absurd (cc)
-define_dead i (property o p x) u e = absurd (cc)
+  module _ (each : OfEachKind) where
+    some_is : (o : Option Numbered) (t u : Target) → P o t → Some t ≡ Some u → P o u
+    some_is o t u h e = let same : t ≡ u = cc in subst (P o) same h
 
-map_dead : {X : Type 0} (f : X → Target) (o : Option X) (u : Target) → ((x : X) → Dead (f x)) → option_map f o ≡ Some u → Dead u
-map_dead f None u d e = absurd (cc)
-map_dead f (Some x) u d e = same_dead (f x) u e (d x)
+    variable_is : (n k : ℕ) (i : Instance) (part : Part) (u : Target) → variable_of i part ≡ Some u → P (Some (numbered.Variable n k)) u
+    variable_is n k i (variable kind m p (plain type q)) u e =
+        some_is (Some (numbered.Variable n k)) (to_variable (i.path ++ m ∷ [])) u (each.a_variable n k (i.path ++ m ∷ [])) e
+    variable_is n k i (variable kind m p (instance b q es)) u e = absurd (cc)
+    variable_is n k i (define m p x) u e = absurd (cc)
+    variable_is n k i (assign o m p x) u e = absurd (cc)
+    variable_is n k i (constraint o p x) u e = absurd (cc)
+    variable_is n k i (property o p x) u e = absurd (cc)
 
-then_dead : {X : Type 0} (f : X → Option Target) (o : Option X) (u : Target) → ((x : X) → f x ≡ Some u → Dead u) → option_and_then f o ≡ Some u → Dead u
-then_dead f None u d e = absurd (cc)
-then_dead f (Some x) u d e = d x e
+    define_is : (n k : ℕ) (i : Instance) (part : Part) (u : Target) → define_of i part ≡ Some u → P (Some (numbered.Define n k)) u
+    define_is n k i (variable kind m p t) u e = absurd (cc)
+    define_is n k i (define m p x) u e = some_is (Some (numbered.Define n k)) (to_body i.up x) u (each.a_define n k i.up x) e
+    define_is n k i (assign o m p x) u e = absurd (cc)
+    define_is n k i (constraint o p x) u e = absurd (cc)
+    define_is n k i (property o p x) u e = absurd (cc)
+
+    pub by_kind : (o : Option Numbered) (u : Target) → meant program symbols o ≡ Some u → P o u
+    by_kind None u e = some_is None to_nothing u each.nothing e
+    by_kind (Some (numbered.Variable n k)) u e =
+        then_is (λ (i : Instance). option_and_then (variable_of i) (slice_get i.body.parts k)) (slice_get (instances program) n) u (λ i.
+        then_is (variable_of i) (slice_get i.body.parts k) u (λ part. variable_is n k i part u)) e
+    by_kind (Some (numbered.Define n k)) u e =
+        then_is (λ (i : Instance). option_and_then (define_of i) (slice_get i.body.parts k)) (slice_get (instances program) n) u (λ i.
+        then_is (define_of i) (slice_get i.body.parts k) u (λ part. define_is n k i part u)) e
+    by_kind (Some (numbered.Parameter n k)) u e =
+        then_is (λ (i : Instance). option_map (to_body (outer i.up)) (slice_get i.actuals k)) (slice_get (instances program) n) u (λ i.
+        map_is (to_body (outer i.up)) (slice_get i.actuals k) u (λ x a.
+        some_is (Some (numbered.Parameter n k)) (to_body (outer i.up) x) u (each.a_parameter n k (outer i.up) x))) e
+    by_kind (Some (numbered.Instance n)) u e =
+        map_is (λ (i : Instance). to_instance i.up) (slice_get (instances program) n) u (λ i a. some_is (Some (numbered.Instance n)) (to_instance i.up) u (each.a_instance n i a)) e
+    by_kind (Some (numbered.Symbol k)) u e =
+        map_is to_symbol (slice_get symbols k) u (λ m a. some_is (Some (numbered.Symbol k)) (to_symbol m) u (each.a_symbol k m)) e
 
 -- the names of the module of an instance
 module _ (program : List Body) (s : Scopes) (are : AreScopes program s) (n : ℕ) (i : Instance) (at : slice_get (instances program) n ≡ Some i) where
@@ -208,37 +233,26 @@ module _ (program : List Body) (below : ℕ) (r : Resolver) (ready : IsReadyBelo
 
   further_means : (ms : List (List ℕ)) (o : Option Numbered) (t : Target) → Means o t → Means (further_target r o ms) (follow all t ms)
   further_means [] o t h = h
-  further_means (m ∷ ms) o t h = by_target (further_means ms) o h
+  further_means (m ∷ ms) o t h =
+      by_kind (λ x u. Means (further_target r (target_behind r x m) ms) (follow all u (m ∷ ms))) program r.symbols (each (further_means ms)) o t h
     where
-      Rest : Type 0
-      Rest = (x : Option Numbered) (u : Target) → Means x u → Means (further_target r x ms) (follow all u ms)
+      stays : (ns : List (List ℕ)) → follow all to_nothing ns ≡ to_nothing
+      stays [] = refl
+      stays (n ∷ ns) = refl
 
-      nowhere : Rest → (o : Option Numbered) → target_behind r o m ≡ None → Dead t → Means (further_target r (target_behind r o m) ms) (follow all t (m ∷ ms))
-      nowhere rest o e d =
-          ap (λ x. meant program r.symbols (further_target r x ms)) e ∙ (rest None to_nothing refl ∙ ap Some (stays ms ∙ sym (d all m ms)))
-        where
-          stays : (ns : List (List ℕ)) → follow all to_nothing ns ≡ to_nothing
-          stays [] = refl
-          stays (n ∷ ns) = refl
-
-      within : Rest → (n : ℕ) (x : Option Instance) → slice_get all n ≡ x → option_map (λ (i : Instance). to_instance i.up) x ≡ Some t → Means (further_target r (target_behind r (Some (numbered.Instance n)) m) ms) (follow all t (m ∷ ms))
-      within rest n None e h = absurd (cc)
-      within rest n (Some i) e h =
-          let same : to_instance i.up ≡ t = cc in
-          subst (λ u. Means (further_target r (target_behind r (Some (numbered.Instance n)) m) ms) (follow all u (m ∷ ms))) same
-          (rest (target_behind r (Some (numbered.Instance n)) m) (member_of i.path i.up m i.body.parts to_nothing) (behind_means n i e m)
-          ∙ ap (λ x. Some (elim x [ Some j ↦ follow all (member_of j.path j.up m j.body.parts to_nothing) ms | None ↦ to_nothing ])) (sym (by_names n i e)))
-
-      by_target : Rest → (o : Option Numbered) → Means o t → Means (further_target r (target_behind r o m) ms) (follow all t (m ∷ ms))
-      by_target rest None h = nowhere rest None refl (same_dead to_nothing t h (λ a n ns. refl))
-      by_target rest (Some (numbered.Variable n k)) h =
-          nowhere rest (Some (numbered.Variable n k)) refl (then_dead (λ (i : Instance). option_and_then (variable_of i) (slice_get i.body.parts k)) (slice_get all n) t (λ i. then_dead (variable_of i) (slice_get i.body.parts k) t (λ part. variable_dead i part t)) h)
-      by_target rest (Some (numbered.Define n k)) h =
-          nowhere rest (Some (numbered.Define n k)) refl (then_dead (λ (i : Instance). option_and_then (define_of i) (slice_get i.body.parts k)) (slice_get all n) t (λ i. then_dead (define_of i) (slice_get i.body.parts k) t (λ part. define_dead i part t)) h)
-      by_target rest (Some (numbered.Parameter n k)) h =
-          nowhere rest (Some (numbered.Parameter n k)) refl (then_dead (λ (i : Instance). option_map (to_body (outer i.up)) (slice_get i.actuals k)) (slice_get all n) t (λ i. map_dead (to_body (outer i.up)) (slice_get i.actuals k) t (λ e a x xs. refl)) h)
-      by_target rest (Some (numbered.Instance n)) h = within rest n (slice_get all n) refl h
-      by_target rest (Some (numbered.Symbol k)) h = nowhere rest (Some (numbered.Symbol k)) refl (map_dead to_symbol (slice_get r.symbols k) t (λ s a x xs. refl) h)
+      each : ((x : Option Numbered) (u : Target) → Means x u → Means (further_target r x ms) (follow all u ms)) → OfEachKind (λ x u. Means (further_target r (target_behind r x m) ms) (follow all u (m ∷ ms))) program r.symbols
+      each rest =
+          let nowhere : Means (further_target r None ms) to_nothing = rest None to_nothing refl ∙ ap Some (stays ms) in
+          record {
+            nothing = nowhere;
+            a_variable = λ n k path. nowhere;
+            a_define = λ n k up e. nowhere;
+            a_parameter = λ n k up e. nowhere;
+            a_instance = λ n i at.
+                rest (target_behind r (Some (numbered.Instance n)) m) (member_of i.path i.up m i.body.parts to_nothing) (behind_means n i at m)
+                ∙ ap (λ x. Some (elim x [ Some j ↦ follow all (member_of j.path j.up m j.body.parts to_nothing) ms | None ↦ to_nothing ])) (sym (by_names n i at));
+            a_symbol = λ k s. nowhere;
+          }
 
   resolve_by : (up path : List (List ℕ)) → resolve program up path ≡ resolve_from program (actual_in program up) up path
   resolve_by [] path = refl

@@ -9,3 +9,4 @@ pub mod Lookups
 pub mod Declaring
 pub mod Whole
 pub mod Ready
+pub mod UnknownNames

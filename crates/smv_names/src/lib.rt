@@ -18,6 +18,7 @@ mod symbols;
 mod table;
 mod target;
 mod unknown;
+mod unknown_names;
 
 pub use declared::Declared;
 pub use laws::tables_tell_members;
@@ -28,3 +29,4 @@ pub use symbols::{Symbols, symbols_of};
 pub use table::{Table, item_table};
 pub use target::Target;
 pub use unknown::{Known, unknown_in, unknown_in_formula};
+pub use unknown_names::first_unknown_name;

@@ -75,7 +75,7 @@ fn unknown_in_branches<K: Known>(
 
 /// The first unknown name of some expressions.
 #[cycle(first_unknown)]
-fn unknown_in_all<K: Known>(
+pub(crate) fn unknown_in_all<K: Known>(
     alloc: Global,
     known: &K,
     es: &[Expr],
