@@ -3,7 +3,7 @@ use Rattle.std.specs.Prelude.{ℕ, ◌+◌, ◌<◌, List, [], length, map, Opti
 use Rattle.bool_replay.specs.declared.sections.Kept.{Kept}
 use Rattle.bool_replay.specs.declared.sections.Reading.{Reading}
 use Rattle.bool_replay.specs.declared.sections.Reading.TheVariants as reading
-use Rattle.bool_replay.specs.TraceTexts.{Section, Progress, begun, within, lines_of, IsTraceText}
+use Rattle.bool_replay.specs.TraceTexts.{Section, Progress, begun, within, IsTraceText}
 
 -- a section
 abbrev pub section_of : Kept → Section
@@ -18,16 +18,6 @@ progress_of (reading.Within done last) = within (map section_of done.items) (sec
 abbrev pub sections_in : Reading → ℕ
 sections_in reading.Begun = 0
 sections_in (reading.Within done last) = vec_len done + 1
-
--- the lines of what is left of a text
-abbrev pub lines_left : Option (List ℕ) → List (List ℕ)
-lines_left None = []
-lines_left (Some text) = lines_of text
-
--- how much of a text is left
-abbrev pub size_left : Option (List ℕ) → ℕ
-size_left None = 0
-size_left (Some text) = length text + 1
 
 -- the sections are those of the text, and at least one
 abbrev pub AreRead : List (List ℕ) → List ℕ → List Kept → Type 0

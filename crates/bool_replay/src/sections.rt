@@ -2,13 +2,14 @@ ghost use Rattle.std.specs.Prelude.{◌≡◌, ◌++◌, ◌∷◌, [], ℕ, Lis
 ghost use Rattle.std.specs.Option.{option_copied, option_map};
 ghost use Rattle.std.specs.Str.{bytes_eq};
 ghost use Rattle.bool_replay.specs.TraceTexts.{add_line, add_lines, add_statement, opened, section_text, statement_of, trimmed, unless_empty, value_of, within, without_suffix, IsTraceText, Section};
-ghost use Rattle.bool_replay.specs.SectionViews.{AreRead, lines_left, progress_of, section_of, sections_in, size_left};
+ghost use Rattle.bool_replay.specs.SectionViews.{AreRead, progress_of, section_of, sections_in};
 
-use crate::lines::{cut_line, equal, trimmed};
+use crate::lines::{equal, trimmed};
 use crate::names::Names;
 use indexmap::IndexMap;
 use itoa::Buffer;
 use std::alloc::{AllocError, Global};
+use text_lines::first_line;
 
 /// A section of a trace: the number of its line, and the values that it states, by name.
 #[derive(Drop)]
@@ -177,6 +178,7 @@ fn add_line(
 /// # Errors
 ///
 /// `AllocError` where memory is refused.
+#[tactic(auto, using(crate::proofs::ReadingLemmas::lines_over))]
 pub(crate) fn read(
     alloc: Global,
     names: &Names,
@@ -187,15 +189,15 @@ pub(crate) fn read(
 {
     let mut reading = Reading::Begun;
     let mut number = 0;
-    let mut left = Some(text);
-    while let Some(bytes) = left {
-        let (line, behind) = cut_line(bytes);
+    let mut rest = text;
+    while !rest.is_empty() {
+        let (line, behind) = first_line(rest);
         number += 1;
         match add_line(alloc, names, reading, number, line)? {
             Some(more) => reading = more,
             None => return Ok(None),
         }
-        left = behind;
+        rest = behind;
     }
     match reading {
         Reading::Begun => Ok(None),

@@ -10,7 +10,7 @@ use Rattle.cmd_table.specs.declared.table.Opt.{Opt}
 use Rattle.cmd_table.specs.declared.table.Takes.{Takes}
 use Rattle.cmd_table.specs.declared.table.Takes.TheVariants.{Nothing, Word}
 use Rattle.cmd_table.specs.declared.table.Takes.TheVariants as takes
-use Rattle.cmd_table.specs.Fault.{Answers}
+use Rattle.cmd_table.specs.Answers.{Answers}
 use Rattle.cmd_table.specs.Options.{Reads, ends, takes_none, takes_one, stands_free, unknown, repeated, no_argument, no_number, too_many, nothing, is_closed, is_given, is_free, is_unknown, option_of, place_of, takes_at, takes_word, fits, begins_with_dash, with_option, with_free}
 use Rattle.cmd_table.specs.Steps.{Next, over, wrong, goes, next, next_open, next_option, next_free, with_argument, with_word}
 

@@ -1,5 +1,5 @@
 -- The numbers and the texts of the refusals.
-use Rattle.std.specs.Prelude.{◌≡◌, ◌⊎◌, ℕ, List, ◌++◌, codes, Result, Err, alloc_error}
+use Rattle.std.specs.Prelude.{ℕ, List, ◌++◌, codes}
 use Rattle.cmd_table.specs.declared.fault.OptFault.{OptFault}
 use Rattle.cmd_table.specs.declared.fault.OptFault.TheVariants.{Unknown, NoArgument, Repeated, Excluded, Number, Many, Required, NoMemory}
 
@@ -24,7 +24,3 @@ text_of (Number word) = word ++ codes ": number unreadable or out of range"
 text_of (Many word) = word ++ codes ": too many words"
 text_of (Required word) = word ++ codes ": missing"
 text_of (NoMemory _) = codes "out of memory"
-
--- the expected answer, or want of memory
-abbrev pub Answers : {A : Type 0} → Result A OptFault → Result A OptFault → Type 0
-Answers expected result = (result ≡ expected) ⊎ (result ≡ Err (NoMemory alloc_error))

@@ -1,3 +1,4 @@
+pub mod Answers
 pub mod Distinct
 pub mod Fault
 pub mod Fitting

@@ -1,5 +1,5 @@
 ghost use Rattle.std.specs.Prelude.{◌≡◌, ◌⊎◌, length, IfOk, Result, Err, alloc_error};
-ghost use Rattle.cmd_table.specs.Fault.{Answers};
+ghost use Rattle.cmd_table.specs.Answers.{Answers};
 ghost use Rattle.cmd_table.specs.Fitting.{AllFit};
 ghost use Rattle.cmd_table.specs.Options.{Options, Reads, nothing};
 ghost use Rattle.cmd_table.specs.declared.fault.OptFault.{OptFault};

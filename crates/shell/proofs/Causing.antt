@@ -1,5 +1,5 @@
 -- Commands, lines and scripts read no input, end in no way that only the input has, and tell faults of files by their cause.
-use Rattle.std.proofs.Common.{◌≡◌, ℕ, zero, suc, Bool, true, false, List, [], ◌∷◌, ◌++◌, inl, inr, refl, ap, sym, subst}
+use Rattle.std.proofs.Common.{◌≡◌, ℕ, zero, suc, Bool, true, false, List, [], ◌∷◌, inl, inr, refl, sym, subst}
 use Rattle.std.specs.Prelude.{Option, None, Some, Result, Ok, Err}
 use Rattle.cmd_table.specs.declared.given.Given.{Given}
 use Rattle.outside.specs.declared.files.FileFault.{FileFault}
@@ -29,7 +29,8 @@ use Rattle.shell.specs.declared.script.Script.{Script}
 use Rattle.shell.specs.declared.topics.ShellCommand.TheVariants as own
 use Rattle.shell.specs.declared.topics.TheConstants.{ECHO, HELP, QUIT, RESET, SOURCE}
 use Rattle.shell.specs.Echo.{EchoesTo, echo_file, echoed}
-use Rattle.shell.specs.Lines.{DoesAny, DoesCommand, DoesCommands, DoesGiven, DoesLine, DoesLineBy, DoesNamed, DoesPieces, DoesScriptLine, DoesWords, LacksScript, RunsScript, ShowsScriptLine, Sourcing, Unless, given_script, script_limit, script_lines}
+use Rattle.shell.specs.Lines.{DoesAny, DoesCommand, DoesCommands, DoesGiven, DoesLine, DoesLineBy, DoesNamed, DoesPieces, DoesScriptLine, DoesWords, LacksScript, RunsScript, ShowsScriptLine, Sourcing, Unless, given_script, script_limit}
+use Rattle.text_lines.specs.Lines.{lines_of}
 use Rattle.shell.specs.Rows.{command_of}
 use Rattle.shell.specs.Topics.{HelpsWith, without_model}
 use Rattle.shell.proofs.Refusing.{help_leaves}
@@ -121,7 +122,7 @@ lacks_script_caused script faults.Failed = unread_leave script_limit script.file
 lacks_script_caused script (faults.NoMemory e) = unread_leave script_limit script.file (faults.NoMemory e)
 
 script_caused : (inner : List ℕ → Process) → ((line : List ℕ) → Always (inner line) IsCaused) → (script : Script) (answer : Result (List ℕ) FileFault) → Always (Chain goes_along (ReadsWhole script_limit script.file answer) (RunsScript inner script answer)) IsCaused
-script_caused inner k script (Ok text) = chain_caused goes_along (λ old events end new p. (reads_still _ _ _ old events end new p).caused) (each_caused goes_on (DoesScriptLine inner script) (script_lines text) (λ line. script_line_caused inner k script line))
+script_caused inner k script (Ok text) = chain_caused goes_along (λ old events end new p. (reads_still _ _ _ old events end new p).caused) (each_caused goes_on (DoesScriptLine inner script) (lines_of text) (λ line. script_line_caused inner k script line))
 script_caused inner k script (Err fault) = λ old events end new p. (lacks_script_caused script fault old events end new p).caused
 
 -- scripts by their depth

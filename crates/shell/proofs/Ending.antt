@@ -1,5 +1,5 @@
 -- What a session over objects that never fail ends with.
-use Rattle.std.proofs.Common.{◌≡◌, ◌≢◌, ◌⊎◌, ℕ, Bool, true, false, List, inl, inr, refl, ap, sym, ◌∙◌, subst, arith, length}
+use Rattle.std.proofs.Common.{◌≡◌, ◌≢◌, ◌⊎◌, ℕ, Bool, true, false, List, inl, inr, refl, ap, sym, ◌∙◌, subst, arith}
 use Rattle.std.proofs.lemmas.Bool.{true≢false}
 use Rattle.std.specs.Prelude.{Option, None, Some}
 use Rattle.shell_world.specs.declared.end.End.{End}
@@ -9,14 +9,12 @@ use Rattle.shell_world.specs.declared.end.Next.TheVariants.{Go, Stop}
 use Rattle.shell_world.specs.declared.event.Event.{Event}
 use Rattle.shell_world.specs.declared.event.Side.{Side}
 use Rattle.shell_world.specs.declared.event.Side.TheVariants as side
-use Rattle.shell_world.specs.declared.state.State.{State}
-use Rattle.shell_world.specs.Keeping.{IsCaused, last_count}
+use Rattle.shell_world.specs.Keeping.{IsCaused}
 use Rattle.shell_world.specs.Processes.{Becomes, Chain, Either, Ends, EndsSaying}
 use Rattle.shell_world.specs.Scenes.{Scene, Told, after, after_refusal, is_go, quits}
 use Rattle.shell_world.specs.Texts.{side_of, text_of}
 use Rattle.shell_world.specs.Written.{Breaks, Written}
 use Rattle.shell.specs.Closing.{Closes}
-use Rattle.shell.specs.Lines.{Sourcing}
 use Rattle.shell.specs.Sessions.{Asked, Follows, Session, SessionAsked, Starts, asked_by, nesting_limit, nothing_asked, plain_script}
 use Rattle.shell.specs.Sound.{IsSilent, IsSoundStatus, PassesLimit, SinksAreSilent}
 use Rattle.shell.proofs.Causing.{TopicsCause, sourcing_caused}

@@ -1,4 +1,3 @@
-pub mod ScriptLines
 pub mod Lining
 pub mod Opening
 pub mod Asking

@@ -19,7 +19,8 @@ use Rattle.shell_world.specs.Written.{Performs}
 use Rattle.shell_world.proofs.Combining.{lacked, lacked_not}
 use Rattle.shell_world.proofs.Performing.{here, known, led, left, right, some, went}
 use Rattle.shell.specs.declared.script.Script.{Script}
-use Rattle.shell.specs.Lines.{DoesCommand, DoesCommands, DoesLineBy, DoesWords, RefusesLine, RunsScript, Sourcing}
+use Rattle.shell.specs.Lines.{DoesCommand, DoesCommands, DoesLineBy, DoesWords, RunsScript, Sourcing}
+use Rattle.shell.specs.Stepping.{RefusesLine}
 
 -- an answer that is a fault is known by its number, and any other by 0
 abbrev pub number_in : {A : Type 0} → Result A LangFault → ℕ

@@ -1,9 +1,7 @@
 -- How the parts of a session are put together.
 use Rattle.std.proofs.Common.{◌≡◌, ◌≢◌, ◌⊎◌, ◌<◌, ◌≤◌, arith, ◌+◌, ◌++◌, ℕ, Bool, true, false, List, inl, inr, refl, ap, sym, ◌∙◌, subst}
 use Rattle.std.proofs.lemmas.Bool.{ltb-false, ltb-true, true≢false}
-use Rattle.std.specs.Prelude.{Result, Ok, Err, nat_lt}
-use Rattle.outside.specs.Told.{HasRisen, one_more}
-use Rattle.shell_world.specs.Texts.{side_of, text_of}
+use Rattle.std.specs.Prelude.{Result, Ok, Err, nat_lt, unwrap_or}
 use Rattle.outside.specs.declared.source.Line.{Line}
 use Rattle.outside.specs.declared.source.LineFault.{LineFault}
 use Rattle.outside.specs.declared.source.LineFault.TheVariants as faults
@@ -16,20 +14,16 @@ use Rattle.shell_world.specs.declared.refusal.Refusal.TheVariants as refusal
 use Rattle.shell_world.specs.Steps.{TakesLine}
 use Rattle.shell_world.specs.declared.end.End.{End}
 use Rattle.shell_world.specs.declared.end.End.TheVariants as ends
-use Rattle.shell_world.specs.declared.end.Next.{Next}
-use Rattle.shell_world.specs.declared.end.Next.TheVariants.{Go, Stop}
-use Rattle.shell_world.specs.declared.event.Event.{Event}
-use Rattle.shell_world.specs.declared.event.Side.{Side}
-use Rattle.shell_world.specs.declared.event.Side.TheVariants as side
+use Rattle.shell_world.specs.declared.end.Next.TheVariants.{Stop}
 use Rattle.shell_world.specs.declared.state.State.{State}
 use Rattle.shell_world.specs.Processes.{Chain, Either, ForSome, Knowing, LacksMemory, Process, Refuses, SaysIf, Then}
-use Rattle.shell_world.specs.Scenes.{Moment, Told, after, after_refusal, at, goes_along, goes_on, quits, scene_of}
-use Rattle.shell_world.specs.Written.{Breaks, Performs, Written}
+use Rattle.shell_world.specs.Scenes.{Moment, Told, after, after_refusal, at, goes_along, goes_on, is_go, own_status, quits, scene_of}
+use Rattle.shell_world.specs.Written.{Performs}
 use Rattle.shell_world.proofs.Performing.{Completes, known, leads_uncut, led, left, over_said, over_went, right, said_ended, some, stopped, uncut, written_then}
-use Rattle.shell.specs.Closing.{Closes}
 use Rattle.shell.specs.Sessions.{DoesInput, DoesRecalled, Fails, Follows, Treats, Turn, Turns}
 use Rattle.shell.specs.Sessions.Turns.{goes, stops}
-use Rattle.shell.specs.Lines.{RefusesLine, Sourcing}
+use Rattle.shell.specs.Lines.{Sourcing}
+use Rattle.shell.specs.Stepping.{RefusesLine}
 use Rattle.shell.specs.declared.script.Script.{Script}
 use Rattle.shell.proofs.Lining.{LacksFor, answered, by_fault, number_in}
 
@@ -110,3 +104,17 @@ prompt_over state true {new = new} {e = e} p g = by_end (said_ended _ _ p)
     by_end (inl is) = absurd (true≢false (sym (ap (goes_along new.state) is) ∙ g))
     by_end (inr is) = ap (goes_on state) is
 prompt_over state false {new = new} {e = e} p g = absurd (true≢false (sym (ap (goes_along new.state) (over_went ends.Went p)) ∙ g))
+
+-- a session that does not go on stops with the status of its end, and a refusal with 1
+pub status_over : (end : End) (state : State) → goes_on state end ≡ false → after state end ≡ Stop (unwrap_or (own_status end) 1)
+status_over ends.Went state g = absurd (true≢false g)
+status_over ends.Refused state g = by_test (quits state) g
+  where
+    by_test : (t : Bool) → is_go (after_refusal t) ≡ false → after_refusal t ≡ Stop 1
+    by_test true h = refl
+    by_test false h = absurd (true≢false h)
+status_over ends.Quits state g = refl
+status_over ends.Misused state g = refl
+status_over ends.InputFailed state g = refl
+status_over ends.Cut state g = refl
+status_over ends.NoMemory state g = refl

@@ -1,5 +1,5 @@
 -- A session tells a fault of the files or of the input only where their count rises.
-use Rattle.std.proofs.Common.{◌≡◌, ◌⊎◌, ◌+◌, ◌<◌, ◌≤◌, ◌++◌, ℕ, Bool, true, false, List, [], ◌∷◌, inl, inr, refl, ap, sym, ◌∙◌, subst, arith}
+use Rattle.std.proofs.Common.{◌≡◌, ◌<◌, ◌≤◌, ◌++◌, ℕ, Bool, true, false, List, inl, inr, refl, ap, sym, ◌∙◌, subst, arith}
 use Rattle.std.proofs.lemmas.List.Folds.{list_any-append}
 use Rattle.std.specs.List.{list_any}
 use Rattle.std.specs.Prelude.{◌==◌, ◌||◌, Option, None, Some, Result, Ok, Err}
@@ -17,7 +17,7 @@ use Rattle.shell_world.specs.declared.shell_event.ShellEvent.TheVariants as shel
 use Rattle.shell_world.specs.declared.refusal.Refusal.TheVariants as refusal
 use Rattle.shell_world.specs.declared.state.State.{State}
 use Rattle.shell_world.specs.Keeping.{Always, IsCaused, last_count, tells_fault}
-use Rattle.shell_world.specs.Processes.{Chain, Ends, EndsSaying, ForSome, Process}
+use Rattle.shell_world.specs.Processes.{Chain, Ends, EndsSaying, Process}
 use Rattle.shell_world.specs.Scenes.{Scene, goes_along, goes_on}
 use Rattle.shell_world.specs.Steps.{TakesLine}
 use Rattle.shell_world.proofs.Keeping.{Counts, becomes_caused, count_step, either_leave, some_leave}

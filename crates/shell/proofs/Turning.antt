@@ -1,5 +1,5 @@
 -- What the turns of a session over objects that never fail come to.
-use Rattle.std.proofs.Common.{◌≡◌, ◌≢◌, ◌⊎◌, ◌+◌, ◌<◌, ◌≤◌, ℕ, suc, Bool, true, false, List, [], ◌∷◌, ◌++◌, length, inl, inr, refl, ap, sym, ◌∙◌, subst, arith}
+use Rattle.std.proofs.Common.{◌≡◌, ◌⊎◌, ◌+◌, ◌<◌, ℕ, suc, Bool, true, false, List, length, inl, inr, refl, ap, sym, ◌∙◌, subst, arith}
 use Rattle.std.proofs.lemmas.Bool.{eqb-true, false≢true, true≢false}
 use Rattle.std.specs.List.{list_any}
 use Rattle.std.specs.Prelude.{◌==◌, ◌||◌, Option, None, Some, Result, Ok, Err, min, nat_lt}
@@ -25,8 +25,8 @@ use Rattle.shell_world.specs.Processes.{Chain, Ends, EndsSaying, ForSome, SaysIf
 use Rattle.shell_world.specs.Scenes.{Scene, goes_along, goes_on}
 use Rattle.shell_world.specs.Steps.{TakesLine}
 use Rattle.shell_world.proofs.Keeping.{becomes_caused, caused_fact, either_leave, knowing_leave, says_leave}
-use Rattle.shell.specs.Lines.{script_lines}
-use Rattle.shell.specs.Sessions.{DoesInput, DoesNth, DoesRecalled, Fails, Treats, Turn, Turns, line_limit, most_lines, nesting_limit, remembered}
+use Rattle.text_lines.specs.Lines.{lines_of}
+use Rattle.shell.specs.Sessions.{DoesInput, DoesNth, DoesRecalled, Treats, Turn, Turns, line_limit, most_lines, nesting_limit, remembered}
 use Rattle.shell.specs.Sessions.Turns.{goes, stops}
 use Rattle.shell.specs.Sound.{IsSilent, has_long_line}
 use Rattle.shell.proofs.Causing.{TopicsCause, chain_caused, lacks_memory_caused, line_caused}
@@ -136,14 +136,14 @@ turn_gives t prompts count text old events end new l (inr p) = subst (λ s. Turn
 
 -- more lines than a session may have, after so many of them
 abbrev pub PassesFrom : ℕ → List ℕ → Type 0
-PassesFrom count text = (has_long_line text ≡ true) ⊎ (most_lines < count + length (script_lines text))
+PassesFrom count text = (has_long_line text ≡ true) ⊎ (most_lines < count + length (lines_of text))
 
 -- a session that the input ended passed a limit of it
 pub turns_pass : TopicsCause → (prompts : Bool) (text : List ℕ) {count : ℕ} {old : Scene} {events : List Event} {end : End} {new : Scene} → end ≡ ends.InputFailed → old.input.left ≡ Some text → IsSilent old.input.faults new.input.faults → Turns prompts count old events end new → PassesFrom count text
 turns_pass t prompts text f l i (stops count old events end new turn halt) = by_gift (turn_gives t prompts count text old events end new l turn)
   where
-    last_of : TookLine text new.input.left → count ≡ most_lines → most_lines < count + length (script_lines text)
-    last_of k c = let e : length (script_lines text) ≡ suc (length (script_lines k.rest)) = ap length k.lines in omega (arith, c, e)
+    last_of : TookLine text new.input.left → count ≡ most_lines → most_lines < count + length (lines_of text)
+    last_of k c = let e : length (lines_of text) ≡ suc (length (lines_of k.rest)) = ap length k.lines in omega (arith, c, e)
 
     by_gift : TurnGives count text old end new → PassesFrom count text
     by_gift (over n g) = absurd (n f)
@@ -155,7 +155,7 @@ turns_pass t prompts text f l i (goes count old first end mid others last new tu
   where
     more : (k : TookLine text mid.input.left) → PassesFrom (count + 1) k.rest → PassesFrom count text
     more k (inl h) = inl (ap (λ ls. list_any (λ line. nat_lt line_limit (length line)) ls) k.lines ∙ or_true (nat_lt line_limit (length k.line)) h)
-    more k (inr h) = let e : length (script_lines text) ≡ suc (length (script_lines k.rest)) = ap length k.lines in inr (omega (arith, h, e))
+    more k (inr h) = let e : length (lines_of text) ≡ suc (length (lines_of k.rest)) = ap length k.lines in inr (omega (arith, h, e))
 
     by_gift : ((k : TookLine text mid.input.left) → mid.input.faults ≡ old.input.faults → PassesFrom (count + 1) k.rest) → TurnGives count text old end mid → PassesFrom count text
     by_gift again (over n g) = absurd (true≢false (sym on ∙ g))

@@ -4,6 +4,7 @@ pub mod Topics
 pub mod Lines
 pub mod Sessions
 pub mod Closing
+pub mod Stepping
 pub mod AskedViews
 pub mod Words
 pub mod Refused

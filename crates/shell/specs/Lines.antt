@@ -1,14 +1,14 @@
 -- What a line does, and a script, line by line.
-use Rattle.std.specs.Prelude.{ℕ, zero, suc, ◌==◌, Bool, true, false, List, [], ◌∷◌, Option, Some, None, option_map, slice_get, Result, Ok, Err, if◌then◌else◌}
+use Rattle.std.specs.Prelude.{ℕ, zero, suc, Bool, true, false, List, [], ◌∷◌, Option, Some, None, option_map, slice_get, Result, Ok, Err}
 use Rattle.cmd_table.specs.declared.given.Given.{Given}
 use Rattle.cmd_table.specs.Options.{is_given}
 use Rattle.outside.specs.declared.files.FileFault.{FileFault}
 use Rattle.outside.specs.declared.files.FileFault.TheVariants as faults
 use Rattle.shell_lang.specs.declared.fault.LangFault.{LangFault}
-use Rattle.shell_lang.specs.declared.fault.LangFault.TheVariants as language
 use Rattle.shell_lang.specs.declared.line.Piece.{Piece}
 use Rattle.shell_lang.specs.Filled.{Expands}
 use Rattle.shell_lang.specs.Lines.{Splits}
+use Rattle.text_lines.specs.Lines.{lines_of}
 use Rattle.shell.specs.Echo.{Echoes}
 use Rattle.shell_model.specs.LogCommands.{DoesLog}
 use Rattle.shell_model.specs.ModelCommands.{DoesModel}
@@ -104,26 +104,10 @@ abbrev pub DoesCommands : (Script → Process) → Result (List (List (List Piec
 DoesCommands nested (Ok commands) = Each goes_along (DoesCommand nested) commands
 DoesCommands nested (Err fault) = Refuses (refusal.Language fault)
 
--- a fault of a whole line is a refusal, but want of memory ends the session
-abbrev pub RefusesLine : LangFault → Process
-RefusesLine (language.NoMemory e) = LacksMemory
-RefusesLine fault = Refuses (refusal.Language fault)
-
 -- a line, where scripts mean this
 abbrev pub DoesLineBy : (Script → Process) → List ℕ → Process
 DoesLineBy nested line =
     Either LacksMemory (ForSome (λ answer. Where (Splits line answer) (DoesCommands nested answer)))
-
--- a byte before the first line of a text
-abbrev pub onto_first : ℕ → List (List ℕ) → List (List ℕ)
-onto_first byte [] = (byte ∷ []) ∷ []
-onto_first byte (line ∷ lines) = (byte ∷ line) ∷ lines
-
--- the lines of a script: each ends at a line feed, which the last may lack
-abbrev pub script_lines : List ℕ → List (List ℕ)
-script_lines [] = []
-script_lines (byte ∷ bytes) =
-    if byte == 10 then [] ∷ script_lines bytes else onto_first byte (script_lines bytes)
 
 -- a line of a script is written before it is done, where that is asked for; where memory is refused for
 -- that, the line is refused
@@ -157,7 +141,7 @@ LacksScript script (faults.NoMemory e) = RefusesFile script_limit script.file (f
 
 -- its lines, as long as the session goes on
 abbrev pub DoesScriptLines : (List ℕ → Process) → Script → List ℕ → Process
-DoesScriptLines inner script text = Each goes_on (DoesScriptLine inner script) (script_lines text)
+DoesScriptLines inner script text = Each goes_on (DoesScriptLine inner script) (lines_of text)
 
 abbrev pub RunsScript : (List ℕ → Process) → Script → Result (List ℕ) FileFault → Process
 RunsScript inner script (Ok text) = DoesScriptLines inner script text

@@ -9,7 +9,6 @@ use Rattle.shell_lang.specs.Lines.{Splits}
 use Rattle.shell_lang.specs.Recall.{recalled}
 use Rattle.shell_world.specs.declared.end.End.TheVariants as ends
 use Rattle.shell_world.specs.declared.event.Event.{Event}
-use Rattle.shell_world.specs.declared.state.State.{State}
 use Rattle.shell_world.specs.Keeping.{IsKept, IsKeptBut}
 use Rattle.shell_world.specs.Processes.{Each}
 use Rattle.shell_world.specs.Scenes.{Scene, goes_along}

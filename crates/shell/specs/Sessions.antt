@@ -8,7 +8,7 @@ use Rattle.outside.specs.declared.source.Line.TheVariants as lines
 use Rattle.outside.specs.declared.source.LineFault.{LineFault}
 use Rattle.outside.specs.declared.source.LineFault.TheVariants as faults
 use Rattle.shell_lang.specs.declared.fault.LangFault.{LangFault}
-use Rattle.shell_lang.specs.Bytes.{is_blank}
+use Rattle.text_lines.specs.Lines.{is_blank}
 use Rattle.shell_lang.specs.Keyed.{with_name}
 use Rattle.shell_lang.specs.Past.{remembering}
 use Rattle.shell_lang.specs.Recall.{recalled}

@@ -1,15 +1,16 @@
 ghost use Rattle.std.specs.Prelude.{◌≡◌, ◌+◌, ◌<◌, ◌≤◌, Ok, OnOk, OnErr};
 ghost use Rattle.std.specs.List.{list_all};
-ghost use Rattle.shell_lang.specs.Bytes.{is_blank};
+ghost use Rattle.text_lines.specs.Lines.{is_blank};
 ghost use Rattle.shell_world.specs.Processes.{Either, LacksMemory};
 ghost use Rattle.shell_world.specs.Written.{Does};
 ghost use Rattle.shell.specs.Sessions.{DoesInput, DoesRecalled, remembered};
 
 use crate::lines::{do_line, refuse_line};
 use outside::Text;
-use shell_lang::{is_blank, recall};
+use shell_lang::recall;
 use shell_world::{End, Outside, State, lack_memory};
 use std::alloc::{AllocError, Global};
+use text_lines::is_blank;
 
 /// So many scripts may be nested in a line of input.
 pub(crate) const DEPTH: u32 = 16;

@@ -14,7 +14,6 @@ mod rows;
 mod run;
 mod script;
 mod session;
-mod text;
 mod topics;
 
 pub use laws::{

@@ -3,13 +3,13 @@ ghost use Rattle.std.specs.Prelude.{◌≡◌, IfOk, Ok};
 ghost use Rattle.shell_world.specs.Processes.{Each};
 ghost use Rattle.shell_world.specs.Scenes.{goes_along};
 ghost use Rattle.shell_world.specs.Written.{Does};
-ghost use Rattle.shell.specs.Lines.{DoesAny, DoesCommand, DoesLine, DoesNamed, DoesScriptLine, DoesScriptLines, DoesShell, DoesSource, DoesWords, LacksScript, RefusesLine, ShowsScriptLine, Sourcing, given_script};
+ghost use Rattle.shell.specs.Lines.{DoesAny, DoesCommand, DoesLine, DoesNamed, DoesScriptLine, DoesScriptLines, DoesShell, DoesSource, DoesWords, LacksScript, ShowsScriptLine, Sourcing, given_script};
 ghost use Rattle.shell.specs.Rows.{command_of};
+ghost use Rattle.shell.specs.Stepping.{RefusesLine};
 
 use crate::echo::do_echo;
 use crate::rows::{Command, command_of};
 use crate::script::Script;
-use crate::text::first_line;
 use crate::topics::{SOURCE, ShellCommand, do_help, do_quit, do_reset, no_command};
 use cmd_table::Given;
 use outside::{FileFault, Text, Words};
@@ -21,6 +21,7 @@ use shell_world::{
     refuse_file, say, say_if,
 };
 use std::alloc::{AllocError, Global};
+use text_lines::first_line;
 
 // The places of the options of `source` in their row.
 const PROMPTS: usize = 0;
@@ -248,7 +249,7 @@ pub(crate) fn do_script<W: Outside>(
     if depth == 0 {
         return refuse(state, world, Refusal::TooDeep);
     }
-    match read_file(alloc, state, world, SCRIPT_LIMIT, &script.file) {
+    match read_file(alloc, world, SCRIPT_LIMIT, &script.file) {
         Ok(text) => do_script_lines(alloc, state, world, depth - 1, script, text.as_slice()),
         Err(fault) => lack_script(alloc, state, world, script, fault),
     }

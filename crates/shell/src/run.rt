@@ -1,12 +1,11 @@
-ghost use Rattle.std.specs.Prelude.{◌≡◌, ◌≢◌, ◌+◌, ◌≤◌, ◌⊎◌, false, option_copied, IfOk, OnErr, OnOk};
-ghost use Rattle.shell_world.specs.declared.end.End.TheVariants as ends;
+ghost use Rattle.std.specs.Prelude.{◌≡◌, ◌+◌, ◌≤◌, false, option_copied, IfOk, OnErr, OnOk};
 ghost use Rattle.shell_world.specs.declared.end.Next.TheVariants.{Stop};
-ghost use Rattle.shell_world.specs.Processes.{EndsSaying};
-ghost use Rattle.shell_world.specs.Scenes.{after, fresh, goes_on};
+ghost use Rattle.shell_world.specs.declared.state.State.{State};
+ghost use Rattle.shell_world.specs.Scenes.{after, goes_on};
 ghost use Rattle.shell_world.specs.Written.{Does};
 ghost use Rattle.shell.specs.AskedViews.{asked_of};
-ghost use Rattle.shell.specs.Closing.{Closes, Runs, told_of};
-ghost use Rattle.shell.specs.Sound.{IsSoundStatus};
+ghost use Rattle.shell.specs.Closing.{Closes, told_of};
+ghost use Rattle.shell.specs.Sound.{IsSoundStatus, sound_objects};
 ghost use Rattle.shell.specs.Sessions.{Fails, Session as SessionOf, SessionAsked, Starts, Treats, Turn, Turns, naming};
 
 use crate::asked::{Wanted, wanted_by};
@@ -19,8 +18,8 @@ use outside::{
 };
 use shell_model::set_input_file;
 use shell_world::{
-    End, Event, Next, Outside, Refusal, ShellEvent, State, World, copy_of, end_saying, lack_memory,
-    read_line, say_if,
+    End, Event, Outside, Refusal, ShellEvent, State, World, copy_of, end_saying, lack_memory,
+    read_line, say_if, tell_event,
 };
 use std::alloc::{AllocError, Global};
 use std::sync::ledger::Ledger;
@@ -90,7 +89,7 @@ fn turn<W: Outside>(
     if !state.goes_along(end) {
         return end;
     }
-    let read = read_line(alloc, state, world, LINE_LIMIT);
+    let read = read_line(alloc, world, LINE_LIMIT);
     treat(alloc, state, world, count, read)
 }
 
@@ -170,56 +169,16 @@ fn open<W: Outside>(alloc: Global, state: &mut State, world: &mut W, wanted: Wan
     start(alloc, state, world, wanted.prompts, script)
 }
 
-// Tells an event before there is a session; it stays with the caller.
-fn tell_fresh<W: Outside>(world: &mut W, event: &Event, wanted: End) -> End
-    requires { wanted ≢ ends.Cut }
-    ensures does { Does W.told (EndsSaying event.now wanted)
-        fresh world.old result fresh world.new }
-    ensures ended { (result ≡ wanted) ⊎ (result ≡ ends.Cut) }
+// The status of a session that does not go on: only a refusal has none of its own.
+fn status_of(end: End) -> u8
+    ensures { (state : State) → goes_on state end ≡ false → after state end ≡ Stop result }
 {
-    match world.tell(event) {
-        Ok(()) => wanted,
-        Err(_) => End::Cut,
-    }
-}
-
-// Tells an event before there is a session.
-fn end_fresh<W: Outside>(world: &mut W, event: Event, wanted: End) -> End
-    requires { wanted ≢ ends.Cut }
-    ensures does { Does W.told (EndsSaying event wanted) fresh world.old result fresh world.new }
-    ensures ended { (result ≡ wanted) ⊎ (result ≡ ends.Cut) }
-{
-    tell_fresh(world, &event, wanted)
-}
-
-// The status of a session that did not begin.
-fn fresh_status(end: End) -> u8
-    requires { goes_on fresh end ≡ false }
-    ensures { after fresh end ≡ Stop result }
-{
-    match end {
-        End::Misused => 2,
-        End::InputFailed => 3,
-        End::Cut => 4,
-        End::NoMemory => 5,
-        End::Went | End::Refused | End::Quits => 0,
-    }
-}
-
-// The status that a session stops with.
-fn status_of(state: &State, end: End) -> u8
-    requires { goes_on state.now end ≡ false }
-    ensures { after state.now end ≡ Stop result }
-{
-    match state.after(end) {
-        Next::Stop(status) => status,
-        Next::Go => 0,
-    }
+    end.status().unwrap_or(1)
 }
 
 // A whole session of these words.
 fn run_words<W: Outside>(alloc: Global, world: &mut W, words: &Words) -> u8
-    ensures { Runs W.told (SessionOf words.now) world.old result world.new }
+    ensures { Closes (W.told world.old) (SessionOf words.now) result (W.told world.new) }
 {
     let nothing = Wanted {
         prompts: false,
@@ -227,14 +186,14 @@ fn run_words<W: Outside>(alloc: Global, world: &mut W, words: &Words) -> u8
         model: None,
     };
     let Some(wanted) = wanted_by(nothing, words.as_slice()) else {
-        return fresh_status(end_fresh(world, Event::Usage, End::Misused));
+        return status_of(tell_event(world, &Event::Usage, End::Misused));
     };
     let Ok(mut state) = State::new(alloc) else {
         let event = Event::Refused(Refusal::NoMemory);
-        return fresh_status(end_fresh(world, event, End::NoMemory));
+        return status_of(tell_event(world, &event, End::NoMemory));
     };
     let end = open(alloc, &mut state, world, wanted);
-    status_of(&state, end)
+    status_of(end)
 }
 
 /// Does all that the program does: reads the input line by line, does what each line asks for, and
@@ -278,7 +237,7 @@ pub fn run_shell<R: Source, F: Files, O: Sink, E: Sink, L: Ledger>(
 }
 
 /// A session over objects that never fail, with nothing kept of what is written: its status is 0, 1,
-/// 2 or 5, or 3 where the input passes a limit.
+/// 2 or 5, or 3 where the input passes a limit. Else it is as that of `run_shell`.
 pub fn run_sound<L: Ledger>(
     alloc: Global,
     words: &Words,
@@ -286,7 +245,10 @@ pub fn run_sound<L: Ledger>(
     files: &mut SoundFiles,
     steps: &mut Steps<L>,
 ) -> u8
-    ensures { IsSoundStatus input.old result }
+    ensures session { Closes (sound_objects input.old files.old) (SessionOf words.now) result
+        (sound_objects input.new files.new) }
+    ensures status { IsSoundStatus input.old result }
+    ensures steps { steps.new ≡ steps.old }
 {
     sound_sessions_end_well();
     run_shell(

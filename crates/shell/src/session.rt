@@ -1,7 +1,8 @@
-ghost use Rattle.std.specs.Prelude.{◌≡◌, ◌<◌, IfOk};
+ghost use Rattle.std.specs.Prelude.{◌≡◌, ◌+◌, ◌<◌, ◌≤◌, IfOk};
 ghost use Rattle.shell_world.specs.Scenes.{fresh};
-ghost use Rattle.shell.specs.Closing.{StepsLine, no_input, told_of};
+ghost use Rattle.shell.specs.Closing.{told_of};
 ghost use Rattle.shell.specs.Sessions.{DoesInput};
+ghost use Rattle.shell.specs.Stepping.{StepsLine, no_input};
 
 use crate::input::do_input;
 use crate::no_input::NoInput;
@@ -62,6 +63,7 @@ impl Session {
             (told_of no_input (F.told files.old) (O.told out.old) (E.told err.old))
             self.old line.now result self.new
             (told_of no_input (F.told files.new) (O.told out.new) (E.told err.new)) }
+        ensures count { self.new.past.count ≤ self.old.past.count + 1 }
         ensures steps { steps.new ≡ steps.old }
     {
         let mut input = NoInput;

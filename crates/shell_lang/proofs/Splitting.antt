@@ -3,7 +3,7 @@ use Rattle.std.proofs.lemmas.List.{drop-drop}
 use Rattle.shell_lang.specs.Marks.{Takes}
 use Rattle.std.proofs.Common.{◌≡◌, ◌↔◌, ℕ, ◌+◌, List, [], ◌∷◌, drop, refl, ap, sym, ◌∙◌, subst, inl, inr}
 use Rattle.std.specs.Prelude.{◌⊎◌, Option, Some, None, Result, Ok, Err, alloc_error}
-use Rattle.shell_lang.specs.Fault.{Answers}
+use Rattle.shell_lang.specs.Answers.{Answers}
 use Rattle.std.specs.Option.{option_map}
 use Rattle.shell_lang.specs.declared.builder.Builder.{Builder}
 use Rattle.shell_lang.specs.declared.fault.LangFault.{LangFault}

@@ -1,10 +1,7 @@
 -- The bytes of a line, by what they stand for.
 use Rattle.std.specs.Prelude.{ℕ, Bool, ◌&&◌, ◌||◌, ◌==◌, not, nat_le}
 use Rattle.outside.specs.Number.{is_digit}
-
--- a blank or a tab, which part words
-abbrev pub is_blank : ℕ → Bool
-is_blank byte = byte == 32 || byte == 9
+use Rattle.text_lines.specs.Lines.{is_blank}
 
 -- a letter, a digit or `_`: what a variable's name is made of after a `$`
 abbrev pub is_name_byte : ℕ → Bool

@@ -1,5 +1,5 @@
 -- The numbers and the texts of the refusals.
-use Rattle.std.specs.Prelude.{◌≡◌, ◌⊎◌, ℕ, Bool, true, false, List, ◌++◌, codes, Result, Err, MatchResult, alloc_error}
+use Rattle.std.specs.Prelude.{ℕ, List, ◌++◌, codes}
 use Rattle.shell_lang.specs.declared.fault.LangFault.{LangFault}
 use Rattle.shell_lang.specs.declared.fault.LangFault.TheVariants.{Quote, Unset, NoEvent, NoName, BadValue, TooManyAliases, NoMemory}
 
@@ -22,12 +22,3 @@ text_of (NoName name) = name ++ codes " is unknown"
 text_of (BadValue name) = name ++ codes ": illegal value"
 text_of TooManyAliases = codes "more than 1000 aliases"
 text_of (NoMemory _) = codes "out of memory"
-
--- the expected answer, or want of memory
-abbrev pub Answers : {A : Type 0} → Result A LangFault → Result A LangFault → Type 0
-Answers expected result = (result ≡ expected) ⊎ (result ≡ Err (NoMemory alloc_error))
-
--- refused with this fault exactly where the test holds, but for want of memory
-abbrev pub RefusedWhere : {A : Type 0} → Bool → LangFault → Result A LangFault → Type 0
-RefusedWhere test fault result =
-    MatchResult result (λ _. test ≡ false) (λ e. ((e ≡ fault) × (test ≡ true)) ⊎ (e ≡ NoMemory alloc_error))

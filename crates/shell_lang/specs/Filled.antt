@@ -1,10 +1,10 @@
 -- The words of a command.
-use Rattle.std.specs.Prelude.{◌≡◌, ◌⊎◌, ℕ, Bool, List, [], ◌∷◌, ◌++◌, Option, Some, None, option_map, ok_or, Result, Ok, Err, MatchResult, alloc_error, if◌then◌else◌}
+use Rattle.std.specs.Prelude.{◌≡◌, ℕ, Bool, List, [], ◌∷◌, ◌++◌, Option, Some, None, option_map, ok_or, Result, Ok, Err, if◌then◌else◌}
 use Rattle.std.specs.List.{list_any}
 use Rattle.std.specs.Str.{bytes_eq}
 use Rattle.shell_lang.specs.Keyed.{at_name}
 use Rattle.shell_lang.specs.declared.fault.LangFault.{LangFault}
-use Rattle.shell_lang.specs.declared.fault.LangFault.TheVariants.{Unset, NoMemory}
+use Rattle.shell_lang.specs.declared.fault.LangFault.TheVariants.{Unset}
 use Rattle.shell_lang.specs.declared.line.Piece.{Piece}
 use Rattle.shell_lang.specs.declared.line.Piece.TheVariants.{Plain, Var}
 
@@ -64,10 +64,3 @@ AnswersFilled aliases (Ok words) answer = (last : List (List ℕ)) × Unfolds al
 -- replaced, each at most once
 abbrev pub Expands : Values → Bodies → List (List Piece) → Result (List (List ℕ)) LangFault → Type 0
 Expands vars aliases command answer = AnswersFilled aliases (filled vars command) answer
-
--- a piece's text was added, or a variable is not set, or memory was refused
-abbrev pub AddsPiece : Result (List ℕ) LangFault → List ℕ → List ℕ → Result (Unit {0}) LangFault → Type 0
-AddsPiece piece old new result =
-    MatchResult result
-    (λ _. (added : List ℕ) × (piece ≡ Ok added) × (new ≡ old ++ added))
-    (λ fault. (piece ≡ Err fault) ⊎ (fault ≡ NoMemory alloc_error))

@@ -1,9 +1,8 @@
 -- Entries under names, in the byte order of the names: variables with their values, aliases with
 -- their words.
-use Rattle.std.specs.Prelude.{ℕ, List, Option, map}
+use Rattle.std.specs.Prelude.{ℕ, List, Option}
 use Rattle.std.specs.Ordering.{nat_cmp}
 use Rattle.std.specs.Cmp.Lexicographic.{slice_cmp}
-use Rattle.std.specs.List.Sorted.{IsStrictlySortedBy}
 use Rattle.std.specs.Map.{lookup, remove_entry}
 use Rattle.std.specs.BTreeMap.{insert_entry, is_at}
 
@@ -18,11 +17,3 @@ with_name entries name x = insert_entry (slice_cmp nat_cmp) entries name x
 -- the entries without the name
 abbrev pub without_name : {X : Type 0} → List (List ℕ × X) → List ℕ → List (List ℕ × X)
 without_name entries name = remove_entry (is_at (slice_cmp nat_cmp name)) entries
-
--- the names, in their order
-abbrev pub names_of : {X : Type 0} → List (List ℕ × X) → List (List ℕ)
-names_of entries = map (λ entry. entry.0) entries
-
--- the names rise in the order of their bytes, so none stands twice
-abbrev pub AreInOrder : {X : Type 0} → List (List ℕ × X) → Type 0
-AreInOrder entries = IsStrictlySortedBy (slice_cmp nat_cmp) (names_of entries)

@@ -2,7 +2,8 @@
 use Rattle.std.specs.Prelude.{◌≡◌, ℕ, ◌+◌, Bool, true, false, ◌==◌, nat_lt, List, [], ◌∷◌, length, take, drop, map, Option, Some, None, Result, Ok, Err, if◌then◌else◌}
 use Rattle.std.specs.List.{prefix_len}
 use Rattle.std.specs.Option.{option_map}
-use Rattle.shell_lang.specs.Bytes.{is_blank, is_name_byte, is_plain, is_quoted}
+use Rattle.shell_lang.specs.Bytes.{is_name_byte, is_plain, is_quoted}
+use Rattle.text_lines.specs.Lines.{is_blank}
 use Rattle.shell_lang.specs.declared.fault.LangFault.{LangFault}
 use Rattle.shell_lang.specs.declared.fault.LangFault.TheVariants.{Quote}
 use Rattle.shell_lang.specs.declared.line.Piece.{Piece}

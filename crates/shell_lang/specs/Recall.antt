@@ -2,7 +2,7 @@
 use Rattle.std.specs.Prelude.{ℕ, ◌==◌, List, [], ◌∷◌, ◌++◌, take, drop, Option, None, option_map, option_and_then, ok_or, Result, Ok, if◌then◌else◌}
 use Rattle.std.specs.List.{prefix_len}
 use Rattle.outside.specs.Number.{is_digit, number_of}
-use Rattle.shell_lang.specs.Bytes.{is_blank}
+use Rattle.text_lines.specs.Lines.{is_blank}
 use Rattle.shell_lang.specs.Past.{Past, line_of}
 use Rattle.shell_lang.specs.declared.fault.LangFault.{LangFault}
 use Rattle.shell_lang.specs.declared.fault.LangFault.TheVariants.{NoEvent}

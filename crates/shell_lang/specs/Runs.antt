@@ -1,7 +1,8 @@
 -- Bytes that stand together.
 use Rattle.std.specs.Prelude.{ℕ, Bool}
 use Rattle.outside.specs.Number.{is_digit}
-use Rattle.shell_lang.specs.Bytes.{is_blank, is_name_byte, is_plain, is_quoted}
+use Rattle.shell_lang.specs.Bytes.{is_name_byte, is_plain, is_quoted}
+use Rattle.text_lines.specs.Lines.{is_blank}
 use Rattle.shell_lang.specs.declared.run.Run.{Run}
 use Rattle.shell_lang.specs.declared.run.Run.TheVariants.{Name, Plain, Quoted, Digits, Blanks}
 

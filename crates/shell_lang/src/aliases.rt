@@ -1,5 +1,5 @@
 ghost use Rattle.std.specs.Prelude.{◌≡◌, ◌&&◌, [], nat_le, is_none, length, option_copied, OnOk, OnErr, IfOk};
-ghost use Rattle.shell_lang.specs.Fault.{RefusedWhere};
+ghost use Rattle.shell_lang.specs.Answers.{RefusedWhere};
 ghost use Rattle.shell_lang.specs.Keyed.{at_name, with_name, without_name};
 
 use crate::LangFault;

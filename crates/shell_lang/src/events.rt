@@ -1,5 +1,5 @@
 ghost use Rattle.std.specs.Prelude.{◌≡◌, ◌≤◌, length, option_copied};
-ghost use Rattle.shell_lang.specs.Fault.{Answers};
+ghost use Rattle.shell_lang.specs.Answers.{Answers};
 ghost use Rattle.shell_lang.specs.Recall.{event_len, event_line, recalled, recalled_from};
 
 use crate::run::Run;

@@ -24,7 +24,6 @@ pub use events::recall;
 pub use fault::LangFault;
 pub use history::History;
 pub use line::{Command, Commands, Piece, Word};
-pub use run::is_blank;
 pub use split::split_line;
 pub use vars::Vars;
 pub use words::expand;

@@ -1,8 +1,10 @@
 ghost use Rattle.std.specs.Prelude.{◌≡◌, ◌≤◌, length};
 ghost use Rattle.std.specs.List.{prefix_len};
-ghost use Rattle.shell_lang.specs.Bytes.{is_name_byte, is_plain, is_blank};
+ghost use Rattle.shell_lang.specs.Bytes.{is_name_byte, is_plain};
+ghost use Rattle.text_lines.specs.Lines.{is_blank};
 
 use outside::is_digit;
+use text_lines::is_blank;
 
 // Bytes that stand together.
 #[derive(Clone, Copy, Debug)]
@@ -61,11 +63,4 @@ fn is_plain(byte: u8) -> bool
     ensures { result ≡ is_plain byte }
 {
     !(is_blank(byte) || byte == b'"' || byte == b'#' || byte == b'$' || byte == b';')
-}
-
-/// Whether a byte parts words: a blank or a tab.
-pub fn is_blank(byte: u8) -> bool
-    ensures { result ≡ is_blank byte }
-{
-    byte == b' ' || byte == b'\t'
 }

@@ -1,5 +1,5 @@
 ghost use Rattle.std.specs.Prelude.{◌≡◌, ◌⊎◌, List, Result, Err, alloc_error};
-ghost use Rattle.shell_lang.specs.Fault.{Answers};
+ghost use Rattle.shell_lang.specs.Answers.{Answers};
 ghost use Rattle.shell_lang.specs.Lines.{Splits};
 ghost use Rattle.shell_lang.specs.declared.fault.LangFault.{LangFault};
 ghost use Rattle.shell_lang.specs.declared.fault.LangFault.TheVariants.{NoMemory};

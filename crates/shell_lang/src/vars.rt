@@ -1,5 +1,5 @@
 ghost use Rattle.std.specs.Prelude.{◌≡◌, Some, codes, option_copied, IfOk, OnOk, OnErr};
-ghost use Rattle.shell_lang.specs.Fault.{RefusedWhere};
+ghost use Rattle.shell_lang.specs.Answers.{RefusedWhere};
 ghost use Rattle.shell_lang.specs.Keyed.{at_name, with_name};
 ghost use Rattle.shell_lang.specs.Settings.{AreSettled, Changes};
 ghost use Rattle.shell_lang.specs.Known.{defaults, is_illegal, is_unknown, taken_back};

@@ -1,6 +1,6 @@
 ghost use Rattle.std.specs.Prelude.{◌≡◌, ◌⊎◌, ◌++◌, ℕ, List, [], Result, Err, reverse, alloc_error, option_copied, IfOk, OnOk};
-ghost use Rattle.shell_lang.specs.Fault.{Answers};
-ghost use Rattle.shell_lang.specs.Filled.{body_of, filled, filled_word, text_of_piece, AddsPiece, Expands, Unfolds};
+ghost use Rattle.shell_lang.specs.Answers.{AddsPiece, Answers};
+ghost use Rattle.shell_lang.specs.Filled.{body_of, filled, filled_word, text_of_piece, Expands, Unfolds};
 ghost use Rattle.std.specs.BTreeSet.{contains};
 ghost use Rattle.std.specs.Cmp.Lexicographic.{slice_cmp};
 ghost use Rattle.std.specs.Ordering.{nat_cmp};

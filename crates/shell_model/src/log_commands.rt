@@ -82,7 +82,7 @@ fn check_text<W: Outside>(alloc: Global, state: &State, world: &mut W, text: &[u
 fn check_file<W: Outside>(alloc: Global, state: &State, world: &mut W, name: &Text) -> End
     ensures { Does W.told (ChecksFile name.now) state.now world.old result state.now world.new }
 {
-    match read_file(alloc, state, world, LOG_LIMIT, name) {
+    match read_file(alloc, world, LOG_LIMIT, name) {
         Ok(text) => check_text(alloc, state, world, text.as_slice()),
         Err(fault) => refuse_file(alloc, state, world, LOG_LIMIT, name, fault),
     }

@@ -135,7 +135,7 @@ fn read_file_as_model<W: Outside>(
     ensures { Does W.told (WithFile model_limit file.now (TakesText file.now))
         state.old world.old result state.new world.new }
 {
-    match read_file(alloc, state, world, MODEL_LIMIT, file) {
+    match read_file(alloc, world, MODEL_LIMIT, file) {
         Ok(text) => take_text(alloc, state, world, file, text.as_slice()),
         Err(fault) => refuse_file(alloc, state, world, MODEL_LIMIT, file, fault),
     }

@@ -100,7 +100,7 @@ fn judge_file<W: Outside>(
     ensures { Does W.told (JudgesFile model.now name.now)
         state.now world.old result state.now world.new }
 {
-    match read_file(alloc, state, world, TRACE_LIMIT, name) {
+    match read_file(alloc, world, TRACE_LIMIT, name) {
         Ok(text) => judge_text(alloc, state, world, model, text.as_slice()),
         Err(fault) => refuse_file(alloc, state, world, TRACE_LIMIT, name, fault),
     }
@@ -156,7 +156,7 @@ fn execute_from<W: Outside>(
     ensures { Does W.told (ExecutesFrom name.now (Some file.now))
         state.old world.old result state.new world.new }
 {
-    match read_file(alloc, state, world, MODEL_LIMIT, file) {
+    match read_file(alloc, world, MODEL_LIMIT, file) {
         Ok(text) => execute_on_text(alloc, state, world, name, text.as_slice()),
         Err(fault) => refuse_file(alloc, state, world, MODEL_LIMIT, file, fault),
     }

@@ -10,6 +10,8 @@ mod language;
 #[cfg(test)]
 mod limits;
 #[cfg(test)]
+mod lines;
+#[cfg(test)]
 mod models;
 #[cfg(test)]
 mod said;

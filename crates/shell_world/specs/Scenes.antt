@@ -1,5 +1,5 @@
 -- What a session has at a moment, what it can see of it, and how a command ends.
-use Rattle.std.specs.Prelude.{ℕ, None, ◌==◌, Bool, true, false, List, [], ◌∷◌, codes}
+use Rattle.std.specs.Prelude.{ℕ, Option, Some, None, ◌==◌, Bool, true, false, List, [], ◌∷◌, codes}
 use Rattle.std.specs.Option.{option_map_or}
 use Rattle.std.specs.Borrow.{GName}
 use Rattle.outside.specs.Number.{number_of}
@@ -57,15 +57,20 @@ abbrev pub after_refusal : Bool → Next
 after_refusal true = Stop 1
 after_refusal false = Go
 
+-- the status that an end stops every session with
+abbrev pub own_status : End → Option ℕ
+own_status ends.Went = None
+own_status ends.Refused = None
+own_status ends.Quits = Some 0
+own_status ends.Misused = Some 2
+own_status ends.InputFailed = Some 3
+own_status ends.Cut = Some 4
+own_status ends.NoMemory = Some 5
+
 -- whether the session goes on after such an end, or the status that it stops with
 abbrev pub after : State → End → Next
-after state ends.Went = Go
 after state ends.Refused = after_refusal (quits state)
-after state ends.Quits = Stop 0
-after state ends.Misused = Stop 2
-after state ends.InputFailed = Stop 3
-after state ends.Cut = Stop 4
-after state ends.NoMemory = Stop 5
+after state end = option_map_or Stop (own_status end) Go
 
 -- the next command of a line follows
 abbrev pub goes_along : State → End → Bool

@@ -1,3 +1,6 @@
+ghost use Rattle.std.specs.Prelude.{◌≡◌};
+ghost use Rattle.shell_world.specs.Scenes.{own_status};
+
 /// How a command ended.
 #[derive(Clone, Copy, Debug, PartialEq, Eq)]
 pub enum End {
@@ -15,6 +18,22 @@ pub enum End {
     Cut,
     /// Memory was refused outside a command.
     NoMemory,
+}
+
+impl End {
+    /// The status that this end stops every session with.
+    pub fn status(self) -> Option<u8>
+        ensures { result ≡ own_status self }
+    {
+        match self {
+            End::Went | End::Refused => None,
+            End::Quits => Some(0),
+            End::Misused => Some(2),
+            End::InputFailed => Some(3),
+            End::Cut => Some(4),
+            End::NoMemory => Some(5),
+        }
+    }
 }
 
 /// Whether a session goes on, or the status that it stops with.

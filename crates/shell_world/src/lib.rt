@@ -34,7 +34,7 @@ pub use row::{Listed, Row, find_word, put_words, read_row};
 pub use settings_event::SettingsEvent;
 pub use shell_event::ShellEvent;
 pub use state::State;
-pub use telling::{end_saying, lack_memory, refuse, say, say_if};
+pub use telling::{end_saying, lack_memory, refuse, say, say_if, tell_event};
 pub use trace_event::TraceEvent;
 pub use words::{copy_of, join};
 pub use world::{Outside, World};

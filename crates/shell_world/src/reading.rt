@@ -1,5 +1,6 @@
 ghost use Rattle.std.specs.Prelude.{◌≡◌};
 ghost use Rattle.shell_world.specs.declared.end.End.TheVariants as ends;
+ghost use Rattle.shell_world.specs.declared.state.State.{State};
 ghost use Rattle.shell_world.specs.Steps.{ReadsWhole, RefusesFile, Stores, TakesLine, WritesWhole, file_refusal};
 ghost use Rattle.shell_world.specs.Written.{Does};
 
@@ -12,16 +13,10 @@ use std::alloc::Global;
 /// # Errors
 ///
 /// Those of `outside::read_line`.
-pub fn read_line<W: Outside>(
-    alloc: Global,
-    state: &State,
-    world: &mut W,
-    limit: usize,
-) -> Result<Line, LineFault>
-    ensures { Does W.told (TakesLine limit result)
-        state.now world.old ends.Went state.now world.new }
+pub fn read_line<W: Outside>(alloc: Global, world: &mut W, limit: usize) -> Result<Line, LineFault>
+    ensures { (state : State) → Does W.told (TakesLine limit result)
+        state world.old ends.Went state world.new }
 {
-    let _state = state;
     world.line(alloc, limit)
 }
 
@@ -32,15 +27,13 @@ pub fn read_line<W: Outside>(
 /// Those of `outside::Files::read_all`.
 pub fn read_file<W: Outside>(
     alloc: Global,
-    state: &State,
     world: &mut W,
     limit: usize,
     name: &Text,
 ) -> Result<Text, FileFault>
-    ensures { Does W.told (ReadsWhole limit name.now result)
-        state.now world.old ends.Went state.now world.new }
+    ensures { (state : State) → Does W.told (ReadsWhole limit name.now result)
+        state world.old ends.Went state world.new }
 {
-    let _state = state;
     world.file(alloc, name, limit)
 }
 
@@ -51,15 +44,13 @@ pub fn read_file<W: Outside>(
 /// Those of `outside::Files::write_all`.
 pub fn write_file<W: Outside>(
     alloc: Global,
-    state: &State,
     world: &mut W,
     name: &Text,
     bytes: &[u8],
 ) -> Result<(), FileFault>
-    ensures { Does W.told (WritesWhole name.now bytes.now result)
-        state.now world.old ends.Went state.now world.new }
+    ensures { (state : State) → Does W.told (WritesWhole name.now bytes.now result)
+        state world.old ends.Went state world.new }
 {
-    let _state = state;
     world.store(alloc, name, bytes)
 }
 
@@ -104,7 +95,7 @@ pub fn store_file<W: Outside>(
     ensures { Does W.told (Stores name.now bytes.now)
         state.now world.old result state.now world.new }
 {
-    match write_file(alloc, state, world, name, bytes) {
+    match write_file(alloc, world, name, bytes) {
         Ok(()) => End::Went,
         Err(fault) => refuse_file(alloc, state, world, 0, name, fault),
     }

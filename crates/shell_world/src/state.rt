@@ -98,20 +98,12 @@ impl State {
     pub fn after(&self, end: End) -> Next
         ensures { result ≡ after self.now end }
     {
-        match end {
-            End::Went => Next::Go,
-            End::Refused => {
-                if self.quits() {
-                    Next::Stop(1)
-                } else {
-                    Next::Go
-                }
-            }
-            End::Quits => Next::Stop(0),
-            End::Misused => Next::Stop(2),
-            End::InputFailed => Next::Stop(3),
-            End::Cut => Next::Stop(4),
-            End::NoMemory => Next::Stop(5),
+        if matches!(end, End::Refused) && self.quits() {
+            return Next::Stop(1);
+        }
+        match end.status() {
+            Some(status) => Next::Stop(status),
+            None => Next::Go,
         }
     }
 

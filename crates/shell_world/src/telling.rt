@@ -1,15 +1,16 @@
 ghost use Rattle.std.specs.Prelude.{◌≢◌};
 ghost use Rattle.shell_world.specs.declared.end.End.TheVariants as ends;
+ghost use Rattle.shell_world.specs.declared.state.State.{State};
 ghost use Rattle.shell_world.specs.Processes.{EndsSaying, LacksMemory, Refuses, Says, SaysIf};
 ghost use Rattle.shell_world.specs.Written.{Does};
 
 use crate::{End, Event, Outside, Refusal, State};
 
-// Tells an event that stays with the caller.
-fn tell_event<W: Outside>(state: &State, world: &mut W, event: &Event, wanted: End) -> End
+/// Tells an event, whatever the session is, and ends as is wanted, or `Cut` where the sink failed.
+pub fn tell_event<W: Outside>(world: &mut W, event: &Event, wanted: End) -> End
     requires { wanted ≢ ends.Cut }
-    ensures { Does W.told (EndsSaying event.now wanted)
-        state.now world.old result state.now world.new }
+    ensures { (state : State) → Does W.told (EndsSaying event.now wanted)
+        state world.old result state world.new }
 {
     match world.tell(event) {
         Ok(()) => wanted,
@@ -17,12 +18,12 @@ fn tell_event<W: Outside>(state: &State, world: &mut W, event: &Event, wanted: E
     }
 }
 
-/// Tells an event, and ends as is wanted, or `Cut` where the sink failed.
+/// Tells an event in this session, with the same ends.
 pub fn end_saying<W: Outside>(state: &State, world: &mut W, event: Event, wanted: End) -> End
     requires { wanted ≢ ends.Cut }
     ensures { Does W.told (EndsSaying event wanted) state.now world.old result state.now world.new }
 {
-    tell_event(state, world, &event, wanted)
+    tell_event(world, &event, wanted)
 }
 
 /// Tells an event.

@@ -9,9 +9,10 @@ use Rattle.shell_world.specs.Written.{Performs}
 use Rattle.shell_world.proofs.Combining.{lacked}
 use Rattle.shell_world.proofs.Rowing.{with_row, without_row}
 use Rattle.shell_world.proofs.Performing.{each_more, each_over, each_stops, items_more, items_over, items_stop, led, stopped, went}
-use Rattle.shell.specs.Lines.{DoesCommand, DoesGiven, DoesLine, DoesScriptLine, ShowsScriptLine, Sourcing, given_script, script_lines}
+use Rattle.shell.specs.Lines.{DoesCommand, DoesGiven, DoesLine, DoesScriptLine, ShowsScriptLine, Sourcing, given_script}
+use Rattle.text_lines.specs.Lines.{lines_of}
 use Rattle.shell.proofs.Lining.{command_done, command_refused, line_lacked, line_not_split, line_split, script_done, too_deep, words_none}
-use Rattle.shell.proofs.ScriptLines.{no_lines}
+use Rattle.text_lines.proofs.Cutting.{no_lines}
 use Rattle.shell.proofs.lines.+lines.Goals as goal
 
 pub do_line-returns-in-Ok-clause-does : goal.do_line-returns-in-Ok-clause-does
@@ -50,26 +51,26 @@ do_script-returns-then-depth-eq0-clause-does g t c = rw c.if-depth-eq0.true (too
 pub do_script-returns-in-Ok-clause-does : goal.do_script-returns-in-Ok-clause-does
 do_script-returns-in-Ok-clause-does g t c =
     let e : c.args.depth ≡ suc (c.args.depth - 1) = omega (arith, c.if-depth-eq0.false) in
-    rw e (script_done (c.args.depth - 1) c.args.script.now (Ok c.in-Ok.text) c.in-Ok.ensures (rw (sym c.as_slice.ensures) c.do_script_lines.ensures.does))
+    rw e (script_done (c.args.depth - 1) c.args.script.now (Ok c.in-Ok.text) (c.in-Ok.ensures c.args.state.now) (rw (sym c.as_slice.ensures) c.do_script_lines.ensures.does))
 
 pub do_script-returns-in-Err-clause-does : goal.do_script-returns-in-Err-clause-does
 do_script-returns-in-Err-clause-does g t c =
     let e : c.args.depth ≡ suc (c.args.depth - 1) = omega (arith, c.if-depth-eq0.false) in
-    rw e (script_done (c.args.depth - 1) c.args.script.now (Err c.in-Err.fault) c.in-Err.ensures c.lack_script.ensures)
+    rw e (script_done (c.args.depth - 1) c.args.script.now (Err c.in-Err.fault) (c.in-Err.ensures c.args.state.now) c.lack_script.ensures)
 
 pub do_script_lines-returns-then-not-goes_on-clause-does : goal.do_script_lines-returns-then-not-goes_on-clause-does
 do_script_lines-returns-then-not-goes_on-clause-does g t c =
-    items_stop goes_on (DoesScriptLine (DoesLine c.args.depth) c.args.script.now) (script_lines c.loop-rest.rest.now) (script_lines c.first_line.result.1.now) c.first_line.result.0.now c.first_line.ensures.lines c.loop-rest.invariant.completes c.do_script_line-end.ensures.does (grind arith)
+    items_stop goes_on (DoesScriptLine (DoesLine c.args.depth) c.args.script.now) (lines_of c.loop-rest.rest.now) (lines_of c.first_line.result.1.now) c.first_line.result.0.now c.first_line.ensures.lines c.loop-rest.invariant.completes c.do_script_line-end.ensures.does (grind arith)
 
 pub do_script_lines-loop-rest-preserved : goal.do_script_lines-loop-rest-preserved
 do_script_lines-loop-rest-preserved g t c = record {
-  completes = items_more goes_on (DoesScriptLine (DoesLine c.args.depth) c.args.script.now) (script_lines c.loop-rest.rest.now) (script_lines c.first_line.result.1.now) c.first_line.result.0.now (λ s. refl) c.first_line.ensures.lines c.loop-rest.invariant.completes c.do_script_line-end.ensures.does (grind arith);
+  completes = items_more goes_on (DoesScriptLine (DoesLine c.args.depth) c.args.script.now) (lines_of c.loop-rest.rest.now) (lines_of c.first_line.result.1.now) c.first_line.result.0.now (λ s. refl) c.first_line.ensures.lines c.loop-rest.invariant.completes c.do_script_line-end.ensures.does (grind arith);
   past = grind (arith, c.do_script_line-end.ensures.past, c.loop-rest.invariant.past);
 }
 
 pub do_script_lines-returns-clause-does : goal.do_script_lines-returns-clause-does
 do_script_lines-returns-clause-does g t c =
-    items_over goes_on (DoesScriptLine (DoesLine c.args.depth) c.args.script.now) (script_lines c.loop-rest.rest.now) (no_lines c.loop-rest.rest.now (sym c.is_empty.ensures ∙ c.loop-rest-test.false)) c.loop-rest.invariant.completes
+    items_over goes_on (DoesScriptLine (DoesLine c.args.depth) c.args.script.now) (lines_of c.loop-rest.rest.now) (no_lines c.loop-rest.rest.now (sym c.is_empty.ensures ∙ c.loop-rest-test.false)) c.loop-rest.invariant.completes
 
 pub do_script_line-returns-then-not-goes_along-clause-does : goal.do_script_line-returns-then-not-goes_along-clause-does
 do_script_line-returns-then-not-goes_along-clause-does g t c =

@@ -2,7 +2,8 @@ use Rattle.std.proofs.Common.{◌≡◌, ◌+◌, ◌*◌, drop, length}
 use Rattle.shell_world.proofs.Performing.{Completes}
 use Rattle.shell_world.specs.Processes.{Each}
 use Rattle.shell_world.specs.Scenes.{at, goes_along, goes_on}
-use Rattle.shell.specs.Lines.{DoesCommand, DoesLine, DoesScriptLine, Sourcing, script_lines}
+use Rattle.shell.specs.Lines.{DoesCommand, DoesLine, DoesScriptLine, Sourcing}
+use Rattle.text_lines.specs.Lines.{lines_of}
 use Rattle.shell.proofs.lines.+lines.Given as goal
 
 abbrev pub decreases-do_line : goal.decreases-do_line
@@ -48,7 +49,7 @@ invariant-do_commands-loop-command g l = record {
 -- what does the lines that are left does all of them
 abbrev pub invariant-do_script_lines-loop-rest : goal.invariant-do_script_lines-loop-rest
 invariant-do_script_lines-loop-rest g l = record {
-  completes : Completes (Each goes_on (DoesScriptLine (DoesLine l.depth) l.script) (script_lines l.rest)) (at l.state (g.W.Outside.told l.world)) (Each goes_on (DoesScriptLine (DoesLine l.depth) l.script) (script_lines l.text)) (at l.fn.state (g.W.Outside.told l.fn.world));
+  completes : Completes (Each goes_on (DoesScriptLine (DoesLine l.depth) l.script) (lines_of l.rest)) (at l.state (g.W.Outside.told l.world)) (Each goes_on (DoesScriptLine (DoesLine l.depth) l.script) (lines_of l.text)) (at l.fn.state (g.W.Outside.told l.fn.world));
   past : l.state.past ≡ l.fn.state.past;
 }
 

@@ -5,10 +5,10 @@ use Rattle.shell_model.proofs.ModelLemmas.{within_limit}
 use Rattle.shell_model.proofs.model_commands.read_file_as_model.Goals as goal
 
 pub take_text-requires : goal.take_text-requires
-take_text-requires g c = rw c.as_slice.ensures (within_limit _ c.args.file.now c.in-Ok.text c.in-Ok.ensures)
+take_text-requires g c = rw c.as_slice.ensures (within_limit _ c.args.file.now c.in-Ok.text (c.in-Ok.ensures c.args.state.now))
 
 pub returns-in-Ok : goal.returns-in-Ok
-returns-in-Ok g c = with_file _ c.args.file.now (TakesText c.args.file.now) c.in-Ok.text c.in-Ok.ensures (rw (sym c.as_slice.ensures) c.take_text.ensures)
+returns-in-Ok g c = with_file _ c.args.file.now (TakesText c.args.file.now) c.in-Ok.text (c.in-Ok.ensures c.args.state.now) (rw (sym c.as_slice.ensures) c.take_text.ensures)
 
 pub returns-in-Err : goal.returns-in-Err
-returns-in-Err g c = without_file _ c.args.file.now (TakesText c.args.file.now) c.in-Err.fault c.in-Err.ensures c.refuse_file.ensures
+returns-in-Err g c = without_file _ c.args.file.now (TakesText c.args.file.now) c.in-Err.fault (c.in-Err.ensures c.args.state.now) c.refuse_file.ensures
