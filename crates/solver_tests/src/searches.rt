@@ -136,36 +136,3 @@ fn learns_more_than_the_choices(rt: HostRuntime) -> Result<(), Fail> {
     assert!(rt; matches!(yes, Verdict::Yes(_)));
     Ok(())
 }
-
-/// The last variable of a chain of clauses, each of which leads from a variable to the next one.
-const LAST: i32 = 500_000;
-
-/// First the clauses of odd variables, rising, and then those of even ones, falling: a scan of all clauses would set two
-/// variables at most each time.
-fn add_chain(rt: &impl Abort, alloc: Global, s: &mut Solver) -> Result<(), AllocError> {
-    for var in 1..LAST {
-        if var % 2 == 1 {
-            add(rt, alloc, s, &[(-var, var + 1)])?;
-        }
-    }
-    for var in (1..LAST).rev() {
-        if var % 2 == 0 {
-            add(rt, alloc, s, &[(-var, var + 1)])?;
-        }
-    }
-    Ok(())
-}
-
-#[test]
-fn follows_a_long_chain(rt: HostRuntime) -> Result<(), Fail> {
-    let alloc = rt.alloc();
-    let mut s = solver(alloc, LAST as u64)?;
-    add_chain(&rt, alloc, &mut s)?;
-    let first = literal(&rt, 1);
-    let last = literal(&rt, -LAST);
-    assert!(rt; last.var() <= s.variables() && first.var() < last.var());
-    let answer = s.solve(&SLits::from_slice(alloc, &[first, last])?, Budget::Unset)?;
-    assert!(rt; matches!(answer, Verdict::No(500_000)));
-    assert!(rt; ends_with(&s, LineKind::Final, &[literal(&rt, LAST), literal(&rt, -1)]));
-    Ok(())
-}
