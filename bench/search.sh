@@ -1,12 +1,16 @@
 #!/bin/bash
-# Asks the solver growing pigeonhole and random 3-SAT instances, and prints how many conflict lines and how
-# much time each takes. It is no test: no time makes it fail.
+# Asks the solver growing instances, and prints how many conflict lines and how much time each takes, with what MiniSat
+# takes on the same clauses where `minisat` is installed. It is no test: no time makes it fail.
 #
-# holes: n + 1 pigeons in n holes. random: clauses of three literals, 4.26 for each variable, from a fixed
-# seed. The program is made in a folder of its own and runs unproved; the first number in brackets is the
-# largest pigeonhole, the second the most variables of a random instance: bench/search.sh [6 [80]]
+# holes: n + 1 pigeons in n holes. random: clauses of three literals, 4.26 for each variable, from five fixed seeds.
+# chain: n variables, each of which implies the next one. The program is made in a folder of its own and runs unproved, with
+# checks that take most of its time. FILE: clauses in DIMACS form, each over different variables.
+#
+#     bench/search.sh [largest pigeonhole [variables of random instances [variables of the chain]]]
+#     bench/search.sh FILE..
 set -eu
 top=$(cd "$(dirname "$0")/.." && pwd)
+from=$PWD
 dir=$(mktemp -d)
 trap 'rm -rf "$dir"' EXIT
 mkdir -p "$dir/crates"
@@ -20,80 +24,37 @@ cd "$dir"
 rt new crates/measure start_io >/dev/null
 echo 'measure: sat_core sat_log' >>crates.txt
 rm -rf crates/measure/src/* crates/measure/proofs crates/measure/specs crates/measure/stdout
-cat >crates/measure/src/main.rt <<'END'
-//! Asks a solver growing instances.
+cat >crates/measure/src/main.rt <<'END_OF_PROGRAM'
+//! Asks a solver the clauses of each file that is named.
 #![tactic(auto)]
 
 use sat_core::{Budget, Solver, Verdict};
 use sat_log::{LineKind, SLit, SLits};
 use std::alloc::{AllocError, Global};
 use std::time::Instant;
-use std::{env, io};
+use std::{env, fs, io};
 
-/// A solver with so many variables.
-fn solver(alloc: Global, variables: u64) -> Result<Solver, AllocError> {
+/// A solver with the clauses of a text in DIMACS form.
+fn read(alloc: Global, text: &str) -> Result<Solver, AllocError> {
     let mut s = Solver::new(alloc)?;
-    for _ in 0..variables {
-        let _var = s.new_var()?;
-    }
-    Ok(s)
-}
-
-/// Adds a clause of these literals.
-fn add(alloc: Global, s: &mut Solver, literals: &[SLit]) -> Result<(), AllocError> {
-    let _id = s.add_clause(&SLits::from_slice(alloc, literals)?)?;
-    Ok(())
-}
-
-/// n + 1 pigeons in n holes.
-fn holes(alloc: Global, n: u64) -> Result<Solver, AllocError> {
-    let mut s = solver(alloc, n * (n + 1))?;
-    for pigeon in 0..n + 1 {
-        let mut clause = Vec::new(alloc);
-        for hole in 0..n {
-            clause.push(SLit::new(pigeon * n + hole + 1, false))?;
+    let mut clause = Vec::new(alloc);
+    for line in text.lines() {
+        if line.starts_with('c') || line.starts_with('p') {
+            continue;
         }
-        add(alloc, &mut s, clause.as_slice())?;
-    }
-    for hole in 0..n {
-        for first in 0..n + 1 {
-            for second in first + 1..n + 1 {
-                let one = SLit::new(first * n + hole + 1, true);
-                let other = SLit::new(second * n + hole + 1, true);
-                add(alloc, &mut s, &[one, other])?;
+        for word in line.split_whitespace() {
+            let number = word.parse::<i64>().unwrap_or(0);
+            if number == 0 {
+                let _id = s.add_clause(&SLits::from_slice(alloc, clause.as_slice())?)?;
+                clause.clear();
+                continue;
             }
+            let var = number.unsigned_abs();
+            while s.variables() < var {
+                let _var = s.new_var()?;
+            }
+            clause.push(SLit::new(var, number < 0))?;
         }
-    }
-    Ok(s)
-}
-
-/// The next of a row of numbers, below a bound.
-fn next(seed: &mut u64, bound: u64) -> u64 {
-    *seed = seed.wrapping_mul(6364136223846793005).wrapping_add(1442695040888963407);
-    (*seed >> 33) % bound
-}
-
-/// Random clauses of three literals.
-fn random(alloc: Global, n: u64) -> Result<Solver, AllocError> {
-    let mut seed = n;
-    let mut s = solver(alloc, n)?;
-    for _ in 0..n * 426 / 100 {
-        let a = next(&mut seed, n) + 1;
-        let mut b = next(&mut seed, n) + 1;
-        while b == a {
-            b = next(&mut seed, n) + 1;
-        }
-        let mut c = next(&mut seed, n) + 1;
-        while c == a || c == b {
-            c = next(&mut seed, n) + 1;
-        }
-        let signs = next(&mut seed, 8);
-        let clause = [
-            SLit::new(a, signs & 1 == 1),
-            SLit::new(b, signs & 2 == 2),
-            SLit::new(c, signs & 4 == 4),
-        ];
-        add(alloc, &mut s, &clause)?;
     }
     Ok(s)
 }
@@ -113,7 +74,9 @@ fn conflicts(s: &Solver) -> u64 {
 }
 
 /// Asks, and prints what it took.
-fn measure(rt: &HostRuntime, name: &str, n: u64, mut s: Solver) -> io::Result<()> {
+fn measure(rt: &HostRuntime, path: &str) -> io::Result<()> {
+    let text = fs::read_to_string(rt, path)?;
+    let mut s = read(rt.alloc(), text.as_str())?;
     let clauses = s.log().count();
     let start = Instant::now(rt)?;
     let answer = match s.solve(&SLits::new(rt.alloc()), Budget::Unset)? {
@@ -124,31 +87,70 @@ fn measure(rt: &HostRuntime, name: &str, n: u64, mut s: Solver) -> io::Result<()
     let took = start.elapsed(rt)?.as_micros() as u64;
     let variables = s.variables();
     let learned = conflicts(&s);
-    println!(rt; "{name:<7}{n:>4}{variables:>10}{clauses:>9}  {answer:<7}{learned:>9}{took:>12}")?;
+    println!(rt; "{variables:>10}{clauses:>10}  {answer:<7}{learned:>9}{took:>14}")?;
     Ok(())
 }
 
 fn main(rt: HostRuntime) -> io::Result<()> {
-    let alloc = rt.alloc();
-    let mut most = [6, 80];
-    let mut place = 0;
     for arg in env::args(&rt)?.skip(1) {
-        if place < 2 {
-            most[place] = arg.as_str().parse::<u64>().unwrap_or(0);
-        }
-        place += 1;
-    }
-    println!(rt; "instance   n variables  clauses  answer conflicts microseconds")?;
-    for n in 1..most[0] + 1 {
-        measure(&rt, "holes", n, holes(alloc, n)?)?;
-    }
-    let mut n = 10;
-    while n <= most[1] {
-        measure(&rt, "random", n, random(alloc, n)?)?;
-        n += 10;
+        measure(&rt, arg.as_str())?;
     }
     Ok(())
 }
-END
-cd crates/measure
-rt try -- "${1:-6}" "${2:-80}"
+END_OF_PROGRAM
+
+holes() {
+    awk -v n="$1" 'BEGIN {
+        for (p = 0; p <= n; p++) { for (h = 1; h <= n; h++) printf "%d ", p * n + h; print 0 }
+        for (h = 1; h <= n; h++) for (a = 0; a <= n; a++) for (b = a + 1; b <= n; b++)
+            print -(a * n + h), -(b * n + h), 0
+    }'
+}
+
+random() {
+    awk -v n="$1" -v seed="$2" '
+        function next_number(bound) { seed = seed * 16807 % 2147483647; return int(seed / 7) % bound }
+        function variable() { return next_number(n) + 1 }
+        function signed(v) { return next_number(2) ? v : -v }
+        BEGIN {
+            for (i = 0; i < 20; i++) next_number(2)
+            for (i = 0; i < int(n * 4.26); i++) {
+                a = variable()
+                do b = variable(); while (b == a)
+                do c = variable(); while (c == a || c == b)
+                print signed(a), signed(b), signed(c), 0
+            }
+        }'
+}
+
+chain() {
+    awk -v n="$1" 'BEGIN {
+        print 1, 0
+        for (v = 1; v < n; v += 2) print -v, v + 1, 0
+        for (v = n - 1; v > 0; v--) if (v % 2 == 0) print -v, v + 1, 0
+    }'
+}
+
+files=()
+if [ -f "${1-}" ]; then
+    for file in "$@"; do files+=("$(cd "$from" && realpath "$file")"); done
+else
+    for n in $(seq 4 "${1:-6}"); do holes "$n" >"holes_$n"; files+=("$dir/holes_$n"); done
+    for seed in 1 2 3 4 5; do random "${2:-100}" $seed >"random_$seed"; files+=("$dir/random_$seed"); done
+    chain "${3:-20000}" >"chain_${3:-20000}"
+    files+=("$dir/chain_${3:-20000}")
+fi
+printf '%-16s%10s%10s  %-7s%9s%14s%20s\n' instance variables clauses answer conflicts microseconds "MiniSat's conflicts"
+for file in "${files[@]}"; do
+    # MiniSat wants a first line with the numbers of variables and clauses.
+    awk '/^[-0-9]/ { clauses++; for (i = 1; i < NF; i++) { v = $i < 0 ? -$i : $i; if (v > most) most = v } text = text $0 "\n" }
+        END { printf "p cnf %d %d\n%s", most, clauses, text }' "$file" >named
+    theirs=-
+    if command -v minisat >/dev/null; then
+        theirs=$(minisat named 2>/dev/null | awk '/^conflicts/ { print $3 }' || true)
+    fi
+    # Each in a run of its own: a run that takes too long prints nothing.
+    line=$(cd crates/measure && rt try -- "$file" 2>/dev/null | grep -E '^ +[0-9]' | tail -1 || true)
+    line=${line:-- - - - -}
+    printf '%-16s%10s%10s  %-7s%9s%14s%20s\n' "$(basename "$file")" $line "$theirs"
+done

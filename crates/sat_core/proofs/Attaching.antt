@@ -19,11 +19,11 @@ use Rattle.sat_trail.proofs.Logs.{clauses_more}
 use Rattle.sat_trail.proofs.Growth.{clause_stays}
 use Rattle.sat_trail.proofs.Tables.{place_within}
 use Rattle.sat_trail.proofs.Trails.{before_all}
-use Rattle.sat_trail.proofs.Levels.{among_earlier, before_before}
+use Rattle.sat_trail.proofs.Levels.{among_earlier, before_before, bottom_inside}
 use Rattle.sat_propagation.specs.Watching.{Propagated, line_of, StandsFor, KeepsPair, IsReady, IsWatchedFor, KeepsLines, Adds, Serves}
 use Rattle.sat_propagation.proofs.Ready.{none_looked, ready_line, ready_decided, ready_wider, ready_added, ready_restarted, ready_served, added_watched, served_watched, lines_watched, ready_quiet}
-use Rattle.sat_watch.specs.Watched.{Pair, Watched, HasPlace, no_pair, pair_at}
-use Rattle.sat_core.specs.Attached.{IsServed, KeepsAttached, WatchesTwo, Attaches}
+use Rattle.sat_watch.specs.Watched.{Pair, Watched, HasPlace, HasWatch, no_pair, pair_at}
+use Rattle.sat_core.specs.Attached.{IsServed, KeepsAttached, WatchesTwo, LooksAgain, Attaches}
 
 -- What is true at level 0.
 
@@ -265,24 +265,46 @@ pub if_none : {P Q : Type 0} (o : Option ℕ) → (P → Q) → IfNone o P → I
 if_none None f h = f h
 if_none (Some x) f h = tt
 
--- At level 0, where nothing was looked at, any two literals may be watched.
+-- At level 0, where nothing was looked at or none of two literals is false, they may be watched.
 
 before_zero : (level : ℕ) (entries : List Entry) (l : Literal) → level ≡ 0 → Among (literals (before level entries)) l → ⊥
 before_zero level [] l none m = m
 before_zero level (e ∷ entries) l none m =
     before_zero level entries l none (subst (λ (b : Bool). Among (literals (cond b (e ∷ entries) (before level entries))) l) (le-ltb e.level level (omega (arith, none))) m)
 
-fresh_pair : (entries : List Entry) (pair : Pair) → top entries ≡ 0 → KeepsPair (bottom 0 entries) entries pair
-fresh_pair entries pair none a b ha hb ne =
+fresh_pair : (entries : List Entry) (p q : Propagated) (a b : Literal) → top entries ≡ 0 → p.looked ≤ length entries → LooksAgain (literals entries) p q a b → KeepsPair (bottom q.looked entries) entries (record { first = a; second = b })
+fresh_pair entries p q a b none within (inl again) l k hl hk ne =
     record {
-      earlier = (λ level most m. absurd (before_zero level entries (negated a) (omega (arith, most, none)) m));
-      now = (λ m. absurd (none_looked entries (negated a) m));
+      earlier = (λ level most m. absurd (before_zero level entries (negated l) (omega (arith, most, none)) m));
+      now = (λ m. absurd (none_looked entries (negated l) (subst (λ (n : ℕ). Among (literals (bottom n entries)) (negated l)) (ap (λ (r : Propagated). r.looked) again) m)));
     }
+fresh_pair entries p q a b none within (inr same) l k hl hk ne =
+    record {
+      earlier = (λ level most m. absurd (before_zero level entries (negated l) (omega (arith, most, none)) m));
+      now = (λ m. absurd (not_false hl (bottom_inside q.looked entries (negated l) m)));
+    }
+  where
+    not_false : HasWatch (record { first = a; second = b }) l → Among (literals entries) (negated l) → ⊥
+    not_false (inl e) m = same.1.0 (subst (λ (x : Literal). Among (literals entries) (negated x)) (sym e) m)
+    not_false (inr e) m = same.1.1 (subst (λ (x : Literal). Among (literals entries) (negated x)) (sym e) m)
 
-module _ (log : List LogLine) (t : Trailed) (p0 p1 p2 p3 : Propagated) (lits : List Literal) (w id : ℕ) (watches : WatchesTwo p0 p1 lits (Some w)) (again : p2 ≡ record { watched = p1.watched; ids = p1.ids; looked = 0 }) (serves : Serves p2 p3 w id) where
+-- no more of the trail was looked at than before
+looked_again : (log : List LogLine) (t : Trailed) (p q : Propagated) (a b : Literal) → LooksAgain (literals t.entries) p q a b → IsReady log t p → IsReady log t q
+looked_again log t p q a b (inl again) r = subst (IsReady log t) (sym again) (ready_restarted log t p r)
+looked_again log t p q a b (inr same) r = subst (IsReady log t) (sym same.0) r
+
+again_watched : (set : List Literal) (p q : Propagated) (a b : Literal) → LooksAgain set p q a b → q.watched ≡ p.watched
+again_watched set p q a b (inl again) = ap (λ (r : Propagated). r.watched) again
+again_watched set p q a b (inr same) = ap (λ (r : Propagated). r.watched) same.0
+
+again_ids : (set : List Literal) (p q : Propagated) (a b : Literal) → LooksAgain set p q a b → q.ids ≡ p.ids
+again_ids set p q a b (inl again) = ap (λ (r : Propagated). r.ids) again
+again_ids set p q a b (inr same) = ap (λ (r : Propagated). r.ids) same.0
+
+module _ (log : List LogLine) (t : Trailed) (p0 p1 p2 p3 : Propagated) (lits : List Literal) (w id : ℕ) (watches : WatchesTwo p0 p1 lits (Some w)) (first second : Literal) (stand : (first ≡ get_or lits 0 first) × (second ≡ get_or lits 1 second)) (again : LooksAgain (literals t.entries) p1 p2 first second) (serves : Serves p2 p3 w id) where
   pub two_ready : top t.entries ≡ 0 → clause_at log id ≡ Some lits → HasDistinctVariables lits → IsReady log t p0 → IsReady log t p3
   two_ready none named distinct ready =
-      ready_served p2 p3 w id serves log t (subst (StandsFor log id) (sym pair_is) stands) keeps (subst (IsReady log t) (sym again) (ready_restarted log t p1 (ready_added p0 p1 a b w adds log t ready)))
+      ready_served p2 p3 w id serves log t (subst (StandsFor log id) (sym pair_is) stands) keeps (looked_again log t p1 p2 first second again before)
     where
       two : (a : Literal) × (b : Literal) × (rest : List Literal) × (lits ≡ a ∷ b ∷ rest) × Adds p0 p1 a b w
       two = two_watched p0 p1 lits w watches
@@ -296,8 +318,21 @@ module _ (log : List LogLine) (t : Trailed) (p0 p1 p2 p3 : Propagated) (lits : L
       adds : Adds p0 p1 a b w
       adds = two.4
 
+      before : IsReady log t p1
+      before = ready_added p0 p1 a b w adds log t ready
+
+      first_is : first ≡ a
+      first_is = stand.0 ∙ ap (λ (ls : List Literal). get_or ls 0 first) two.3
+
+      second_is : second ≡ b
+      second_is = stand.1 ∙ ap (λ (ls : List Literal). get_or ls 1 second) two.3
+
+      again_for : LooksAgain (literals t.entries) p1 p2 a b
+      again_for =
+          subst (λ (l : Literal). LooksAgain (literals t.entries) p1 p2 l b) first_is (subst (λ (l : Literal). LooksAgain (literals t.entries) p1 p2 first l) second_is again)
+
       pair_is : pair_at p2.watched w ≡ record { first = a; second = b }
-      pair_is = ap (λ (p : Propagated). pair_at p.watched w) again ∙ pair_added p0 p1 a b w adds
+      pair_is = ap (λ (x : Watched). pair_at x w) (again_watched (literals t.entries) p1 p2 first second again) ∙ pair_added p0 p1 a b w adds
 
       both : HasDistinctVariables (a ∷ b ∷ two.2)
       both = subst HasDistinctVariables two.3 distinct
@@ -312,11 +347,13 @@ module _ (log : List LogLine) (t : Trailed) (p0 p1 p2 p3 : Propagated) (lits : L
           }
 
       keeps : KeepsPair (bottom p2.looked t.entries) t.entries (pair_at p2.watched w)
-      keeps = subst (λ (n : ℕ). KeepsPair (bottom n t.entries) t.entries (pair_at p2.watched w)) (sym (ap (λ (p : Propagated). p.looked) again)) (fresh_pair t.entries (pair_at p2.watched w) none)
+      keeps = subst (KeepsPair (bottom p2.looked t.entries) t.entries) (sym pair_is) (fresh_pair t.entries p1 p2 a b none before.within again_for)
 
   pub two_keeps_watched : (i : ℕ) → IsWatchedFor p0 i → IsWatchedFor p3 i
   two_keeps_watched i h =
       let two = two_watched p0 p1 lits w watches in
       let adds : Adds p0 p1 two.0 two.1 w = two.4 in
-      let free : line_of p2 w ≡ 0 = ap (λ (p : Propagated). line_of p w) again ∙ adds.unused in
-      served_watched p2 p3 w id serves i free (same_watched p1 p2 (ap (λ (p : Propagated). p.watched.pairs) again) (ap (λ (p : Propagated). p.ids) again) i (added_watched p0 p1 two.0 two.1 w adds i h))
+      let watched = again_watched (literals t.entries) p1 p2 first second again in
+      let ids = again_ids (literals t.entries) p1 p2 first second again in
+      let free : line_of p2 w ≡ 0 = ap (λ (xs : List ℕ). get_or xs w 0) ids ∙ adds.unused in
+      served_watched p2 p3 w id serves i free (same_watched p1 p2 (ap (λ (x : Watched). x.pairs) watched) ids i (added_watched p0 p1 two.0 two.1 w adds i h))

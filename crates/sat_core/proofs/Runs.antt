@@ -20,7 +20,7 @@ use Rattle.sat_core.specs.Verdicts.{IsBelow, IsWithin, IfNo}
 use Rattle.sat_core.specs.declared.verdict.Verdict.{Verdict}
 use Rattle.sat_core.specs.declared.verdict.Verdict.TheVariants.{Yes, No, Spent}
 use Rattle.sat_trail.specs.Trail.{places}
-use Rattle.sat_core.specs.Search.{Searched, AddsLearned, AddsFinal, StepsTo, StaysAttached}
+use Rattle.sat_core.specs.Search.{Searched, AddsLearned, AddsFinal, StepsTo, MayStep, GoesOn}
 use Rattle.sat_core.specs.declared.search.Step.{Step}
 use Rattle.sat_core.specs.declared.search.Step.TheVariants.{Learned, Decided}
 use Rattle.sat_core.specs.declared.budget.Budget.{Budget}
@@ -184,9 +184,9 @@ step_gains start want old new step (inr e) h s =
     subst (HasLearned start) (sym (subst (λ (x : Step). StepsTo want old new x) e s).0) h
 
 -- and all clauses stay attached
-pub stays_attached : (new : Searched) (step : Step) → (step ≡ Learned) ⊎ (step ≡ Decided) → StaysAttached new step → new.attached ≡ length new.log
-stays_attached new step (inl e) s = subst (StaysAttached new) e s
-stays_attached new step (inr e) s = subst (StaysAttached new) e s
+pub goes_on : (want : List Literal) (asked : ℕ) (new : Searched) (step : Step) → (step ≡ Learned) ⊎ (step ≡ Decided) → GoesOn want asked new step → MayStep want asked new
+goes_on want asked new step (inl e) s = subst (GoesOn want asked new) e s
+goes_on want asked new step (inr e) s = subst (GoesOn want asked new) e s
 
 pub step_left : (start : List LogLine) (want : List Literal) (old new : Searched) (step : Step) (few : ℕ) → (step ≡ Learned) ⊎ (step ≡ Decided) → HasLearned start old.log → StepsTo want old new step → conflicts (gained start new.log) ≤ few → left few (conflicts (gained start new.log)) (places new.variables) (length new.entries) < left few (conflicts (gained start old.log)) (places new.variables) (length old.entries)
 step_left start want old new step few (inl e) h s most =

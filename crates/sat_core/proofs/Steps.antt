@@ -19,6 +19,7 @@ use Rattle.sat_analysis.specs.Analysis.{Analyzed}
 use Rattle.sat_core.specs.Search.{KeepsSearch, AreAmong, AskedFirst}
 use Rattle.sat_trail.proofs.Lists.{All-map, All-both}
 use Rattle.sat_trail.proofs.Levels.{before_lower, top_most, before_trail, top_lower}
+use Rattle.sat_propagation.proofs.Rules.{in_grown}
 use Rattle.sat_core.proofs.Meanings.{clause_true}
 use Rattle.sat_trail.specs.declared.trail.Entry.{Entry}
 
@@ -59,6 +60,11 @@ implied_asked want (e ∷ added) old h a =
 
 pub adds_asked : (want : List Literal) (old new : List Entry) → AddsImplied old new → AskedFirst want old → AskedFirst want new
 adds_asked want old new a asked = subst (AskedFirst want) (sym a.same) (implied_asked want a.added old a.implied asked)
+
+-- what was true still is
+pub adds_true : (old new : List Entry) (c : List Literal) → AddsImplied old new → AreAmong (literals old) c → AreAmong (literals new) c
+adds_true old new [] a h = tt
+adds_true old new (l ∷ c) a h = (in_grown old new l a h.0, adds_true old new c a h.1)
 
 pub keeps_implied : (log : List LogLine) (old new : Trailed) (analysis : Analyzed) → KeepsSearch log old analysis → IsTrail log new.entries → AddsImplied old.entries new.entries → new.variables ≡ old.variables → KeepsSearch log new analysis
 keeps_implied log old new analysis k t a variables =

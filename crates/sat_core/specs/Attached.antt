@@ -1,6 +1,7 @@
 -- Which clauses of the log a search looks after.
 use Rattle.std.specs.Prelude.{◌≡◌, ◌⊎◌, ◌≤◌, ℕ, Bool, true, false, Option, None, Some, IsSome, IfSome, List, [], ◌∷◌, length}
-use Rattle.sat_log.specs.Literal.{Literal}
+use Rattle.sat_log.specs.Literal.{Literal, negated}
+use Rattle.sat_log.specs.Clause.{Among}
 use Rattle.sat_log.specs.Accepted.{clause_at}
 use Rattle.sat_log.specs.Learned.{IsTrueUnder}
 use Rattle.sat_log.specs.declared.line.LogLine.{LogLine}
@@ -35,6 +36,12 @@ WatchesTwo old new (a ∷ b ∷ c) None = ⊥
 WatchesTwo old new [] (Some w) = ⊥
 WatchesTwo old new (a ∷ []) (Some w) = ⊥
 WatchesTwo old new (a ∷ b ∷ c) (Some w) = Adds old new a b w
+
+-- Where one of the two literals is false the trail is looked at again, and else all is as it was.
+abbrev pub LooksAgain : List Literal → Propagated → Propagated → Literal → Literal → Type 0
+LooksAgain set old new a b =
+    (new ≡ record { watched = old.watched; ids = old.ids; looked = 0 }) ⊎
+    ((new ≡ old) × (¬ Among set (negated a) × ¬ Among set (negated b)))
 
 -- the pair of this number, if there is one, watches for the line of this id
 abbrev pub ServesIf : Propagated → Propagated → Option ℕ → ℕ → Type 0

@@ -1,5 +1,5 @@
 -- What a search keeps between its steps.
-use Rattle.std.specs.Prelude.{◌≡◌, ◌⊎◌, ◌<◌, ◌≤◌, ℕ, None, Some, List, [], ◌∷◌, ◌++◌, length}
+use Rattle.std.specs.Prelude.{◌≡◌, ◌⊎◌, ◌<◌, ◌≤◌, ℕ, None, Some, List, [], ◌∷◌, ◌++◌, length, take}
 use Rattle.std.specs.List.{AllByRecursion}
 use Rattle.sat_log.specs.Literal.{Literal, negated}
 use Rattle.sat_log.specs.Clause.{Among}
@@ -82,12 +82,16 @@ StepsTo want old new Decided = (new.log ≡ old.log) × (length old.entries < le
 StepsTo want old new (Yes bits) = (new.log ≡ old.log) × IsSolution new.variables new.log want bits
 StepsTo want old new (No id) = (id ≡ length new.log) × AddsFinal want old.log new.log
 
--- where a search goes on after a step, all clauses are attached
-abbrev pub StaysAttached : Searched → Step → Type 0
-StaysAttached new Learned = new.attached ≡ length new.log
-StaysAttached new Decided = new.attached ≡ length new.log
-StaysAttached new (Yes bits) = Unit {0}
-StaysAttached new (No id) = Unit {0}
+-- all clauses are attached, and the first of these literals, up to this number, are true
+abbrev pub MayStep : List Literal → ℕ → Searched → Type 0
+MayStep want asked new = (new.attached ≡ length new.log) × AreAmong (literals new.entries) (take asked want)
+
+-- where a search goes on after a step, it may
+abbrev pub GoesOn : List Literal → ℕ → Searched → Step → Type 0
+GoesOn want asked new Learned = MayStep want asked new
+GoesOn want asked new Decided = MayStep want asked new
+GoesOn want asked new (Yes bits) = Unit {0}
+GoesOn want asked new (No id) = Unit {0}
 
 -- The latest literal is the first one of the clause of this id, which implies it: before it all other literals of the
 -- clause are false, and it is unset.

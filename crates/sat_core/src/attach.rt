@@ -13,7 +13,7 @@ ghost use Rattle.sat_watch.specs.Watched.{HasPlace};
 ghost use Rattle.sat_trail.specs.Trail.{literals, top};
 ghost use Rattle.sat_trail.specs.Units.{IsTrail, AddsImplied};
 ghost use Rattle.sat_propagation.specs.Watching.{Propagated, IsReady, IsWatchedFor};
-ghost use Rattle.sat_core.specs.Attached.{WatchesTwo, Attaches};
+ghost use Rattle.sat_core.specs.Attached.{WatchesTwo, LooksAgain, Attaches};
 ghost use Rattle.sat_core.specs.Search.{AskedFirst};
 
 use crate::search::Search;
@@ -41,6 +41,17 @@ pub(crate) fn watch_two(
     }
     let watcher = propagation.add(literals[0], literals[1])?;
     Ok(Some(watcher))
+}
+
+/// Has the whole trail looked at again, if one of two literals that are watched from now on is false.
+fn look_again(trail: &Trail, propagation: &mut Propagation, first: SLit, second: SLit)
+    requires first { first.var ≤ trail.now.variables }
+    requires second { second.var ≤ trail.now.variables }
+    ensures { LooksAgain (literals trail.now.entries) propagation.old propagation.new first second }
+{
+    if trail.is_true(first.negated()) || trail.is_true(second.negated()) {
+        propagation.restart();
+    }
 }
 
 /// Makes the literal of a clause that has one at most true, by the line of this id. Answers whether it is: not where it
@@ -101,7 +112,7 @@ fn attach_clause(
     };
     match watch_two(propagation, clause)? {
         Some(watcher) => {
-            propagation.restart();
+            look_again(trail, propagation, clause[0], clause[1]);
             propagation.serve(watcher, id);
             Ok(true)
         }

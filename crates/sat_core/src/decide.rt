@@ -1,6 +1,6 @@
 //! Decisions: first what is wanted, then any variable that has no value.
 
-ghost use Rattle.std.specs.Prelude.{◌≡◌, ◌≢◌, ◌<◌, ◌≤◌, length, IfSome, IfNone};
+ghost use Rattle.std.specs.Prelude.{◌≡◌, ◌≢◌, ◌<◌, ◌≤◌, length, take, IfSome, IfNone};
 ghost use Rattle.sat_log.specs.Clause.{Among};
 ghost use Rattle.sat_log.specs.Accepted.{clauses};
 ghost use Rattle.sat_log.specs.Checking.{IsUpTo};
@@ -23,27 +23,32 @@ pub(crate) enum Decision {
     Complete,
 }
 
-/// The first of the wanted literals that is not true.
-fn first_open(trail: &Trail, want: &[SLit]) -> Option<SLit>
-    requires { IsUpTo trail.now.variables want.now }
+/// The first of the wanted literals that is not true, where so many are known to be. All before it are then.
+fn first_open(trail: &Trail, want: &[SLit], asked: &mut usize) -> Option<SLit>
+    requires exist { IsUpTo trail.now.variables want.now }
+    requires true_ { AreAmong (literals trail.now.entries) (take asked.old want.now) }
+    ensures true_ { AreAmong (literals trail.now.entries) (take asked.new want.now) }
     ensures wanted { IfSome result (Among want.now) }
     ensures open_ { IfSome result (λ l. ¬ Among (literals trail.now.entries) l) }
     ensures none { IfNone result (AreAmong (literals trail.now.entries) want.now) }
 {
-    for &literal in want {
+    while let Some(&literal) = want.get(*asked) {
         if !trail.is_true(literal) {
             return Some(literal);
         }
+        *asked += 1;
     }
     None
 }
 
 impl Search {
-    /// Decides the first wanted literal that is not true, and else a variable that has no value.
-    pub(crate) fn decide(&mut self, want: &[SLit]) -> Decision
+    /// Decides the first wanted literal that is not true, where so many are known to be, and else a variable that has no
+    /// value.
+    pub(crate) fn decide(&mut self, want: &[SLit], asked: &mut usize) -> Decision
         requires exist { IsUpTo self.old.variables want.now }
         requires quiet { AreQuiet (literals self.old.entries) (clauses self.old.log) }
         requires asked { AskedFirst want.now self.old.entries }
+        requires true_ { AreAmong (literals self.old.entries) (take asked.old want.now) }
         requires all { length self.old.entries ≤ self.old.looked }
         ensures decided { IsDecided want.now self.old.entries result }
         ensures complete { result ≡ Decision.Complete →
@@ -54,11 +59,12 @@ impl Search {
             length self.new.entries ≤ places self.new.variables }
         ensures same { result ≢ Decision.Made → self.new.entries ≡ self.old.entries }
         ensures asked { AskedFirst want.now self.new.entries }
+        ensures true_ { AreAmong (literals self.new.entries) (take asked.new want.now) }
         ensures attached { self.new.attached ≡ self.old.attached }
         ensures log { self.new.log ≡ self.old.log }
         ensures variables { self.new.variables ≡ self.old.variables }
     {
-        match first_open(&self.trail, want) {
+        match first_open(&self.trail, want, asked) {
             Some(literal) if self.trail.is_true(literal.negated()) => Decision::False(literal),
             Some(literal) => {
                 self.trail.decide(literal);

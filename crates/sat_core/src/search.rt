@@ -14,7 +14,7 @@ ghost use Rattle.sat_core.specs.Gains.{outcome, Gains};
 ghost use Rattle.sat_core.specs.Verdicts.{IfYes, IfNo};
 ghost use Rattle.sat_trail.specs.Trail.{literals, top};
 ghost use Rattle.sat_trail.specs.Units.{IsConflict, AreQuiet};
-ghost use Rattle.sat_core.specs.Search.{AskedFirst, StepsTo, StaysAttached};
+ghost use Rattle.sat_core.specs.Search.{AreAmong, AskedFirst, StepsTo, MayStep, GoesOn};
 
 use crate::decide::Decision;
 use crate::laws::{final_line_refutes, learned_lines_are_few, learned_lines_are_fresh};
@@ -226,6 +226,8 @@ impl Search {
             (clauses self.new.log)) }
         ensures asked { (want : List Literal) → AskedFirst want self.old.entries →
             AskedFirst want self.new.entries }
+        ensures true_ { (c : List Literal) → AreAmong (literals self.old.entries) c →
+            AreAmong (literals self.new.entries) c }
         ensures longer { length self.old.entries ≤ length self.new.entries }
         ensures all { IfNone result (length self.new.entries ≤ self.new.looked) }
         ensures attached { self.new.attached ≡ self.old.attached }
@@ -240,19 +242,20 @@ impl Search {
         self.propagation.propagate(&self.log, &mut self.trail)
     }
 
-    /// One step of a search: propagation, and then a clause that is learned, a decision, or an answer.
+    /// One step of a search: propagation, and then a clause that is learned, a decision, or an answer. So many of the wanted
+    /// literals are known to be true.
     ///
     /// # Errors
     ///
     /// `AllocError` where memory is refused; the log stays as it was.
-    fn step(&mut self, want: &[SLit]) -> Result<Step, AllocError>
+    fn step(&mut self, want: &[SLit], asked: &mut usize) -> Result<Step, AllocError>
         requires distinct { HasDistinctVariables want.now }
         requires exist { IsUpTo self.old.variables want.now }
         requires asked { AskedFirst want.now self.old.entries }
         requires log { IsLog self.old.log }
-        requires attached { self.old.attached ≡ length self.old.log }
+        requires may { MayStep want.now asked.old self.old }
         ensures step { IfOk result (StepsTo want.now self.old self.new) }
-        ensures attached { IfOk result (StaysAttached self.new) }
+        ensures goes_on { IfOk result (GoesOn want.now asked.new self.new) }
         ensures err { OnErr result (self.new.log ≡ self.old.log) }
         ensures asked { AskedFirst want.now self.new.entries }
         ensures variables { self.new.variables ≡ self.old.variables }
@@ -261,9 +264,10 @@ impl Search {
             Some(conflict) if self.level() == 0 => Ok(Step::No(self.refute(conflict)?)),
             Some(conflict) => {
                 self.learn(conflict)?;
+                *asked = 0;
                 Ok(Step::Learned)
             }
-            None => match self.decide(want) {
+            None => match self.decide(want, asked) {
                 Decision::Made => Ok(Step::Decided),
                 Decision::False(wanted) => Ok(Step::No(self.refute_wanted(wanted, want)?)),
                 Decision::Complete => Ok(Step::Yes(self.values()?)),
@@ -294,8 +298,9 @@ impl Search {
         let start = self.lines();
         self.attach()?;
         let mut learned = 0;
+        let mut asked = 0;
         while budget.allows(learned) {
-            let step = self.step(want);
+            let step = self.step(want, &mut asked);
             let lines = self.lines();
             match step? {
                 Step::Learned | Step::Decided => {}

@@ -4,9 +4,9 @@ use Rattle.sat_log.specs.Accepted.{IsLog}
 use Rattle.sat_trail.specs.Trail.{literals}
 use Rattle.sat_trail.specs.Units.{IsConflict}
 use Rattle.sat_core.specs.Attached.{KeepsAttached}
-use Rattle.sat_core.specs.Search.{Searched, AskedFirst}
+use Rattle.sat_core.specs.Search.{Searched, AreAmong, AskedFirst}
 use Rattle.sat_core.proofs.Attaching.{refuted_now, attached_propagated, attached_quiet, none_of, if_none}
-use Rattle.sat_core.proofs.Steps.{adds_asked, keeps_implied}
+use Rattle.sat_core.proofs.Steps.{adds_asked, adds_true, keeps_implied}
 use Rattle.sat_core.proofs.search.Search.propagate.Goals as goal
 
 pub invariant_of-self : goal.invariant_of-self
@@ -20,6 +20,10 @@ invariant_of-self c =
 pub returns-clause-asked : goal.returns-clause-asked
 returns-clause-asked c want asked =
     adds_asked want c.self.inside.trail.entries c.propagate.new.trail.entries c.propagate.ensures.implied (subst (λ (v : Searched). AskedFirst want v.entries) (sym c.self.view_is) asked)
+
+pub returns-clause-true_ : goal.returns-clause-true_
+returns-clause-true_ c want true_ =
+    adds_true c.self.inside.trail.entries c.propagate.new.trail.entries want c.propagate.ensures.implied (subst (λ (v : Searched). AreAmong (literals v.entries) want) (sym c.self.view_is) true_)
 
 pub returns-then-is_some-clause-conflict : goal.returns-then-is_some-clause-conflict
 returns-then-is_some-clause-conflict c =

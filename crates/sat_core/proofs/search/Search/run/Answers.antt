@@ -9,7 +9,7 @@ use Rattle.sat_core.specs.Verdicts.{IsBelow, IsWithin}
 use Rattle.sat_trail.specs.Trail.{places}
 use Rattle.sat_core.specs.Search.{AddsFinal, StepsTo}
 use Rattle.sat_core.specs.declared.search.Step.{Step}
-use Rattle.sat_core.proofs.Runs.{HasLearned, learned_none, within_none, left, all_conflicts, gained_length, none_original, refuted_by, final_no_original, stays_attached, step_gains, step_left, step_within, gains_learned, has_no_final, gains_final, longer_push, final_learned, outcome_err, is_spent}
+use Rattle.sat_core.proofs.Runs.{HasLearned, learned_none, within_none, left, all_conflicts, gained_length, none_original, refuted_by, final_no_original, goes_on, step_gains, step_left, step_within, gains_learned, has_no_final, gains_final, longer_push, final_learned, outcome_err, is_spent}
 use Rattle.sat_core.proofs.search.Search.run.Goals as goal
 use Rattle.sat_core.proofs.search.Search.run.Goals.{In-No, In-Yes, After-attach}
 
@@ -108,7 +108,7 @@ loop-budget-preserved c =
       is_log = c.lines-lines.ensures.log;
       exist = c.lines-lines.ensures.exist;
       variables = c.step-step.ensures.variables ∙ c.loop-budget.invariant.variables;
-      attached = stays_attached c.step-step.new.self c.in_ok-step.field-0 c.in-Learned.is c.in_ok-step.ensures.attached;
+      may = goes_on c.args.want.now c.step-step.new.asked c.step-step.new.self c.in_ok-step.field-0 c.in-Learned.is c.in_ok-step.ensures.goes_on;
     }
 
 pub loop-budget-smaller : goal.loop-budget-smaller
@@ -140,7 +140,7 @@ loop-budget-init c =
       is_log = subst IsLog (sym c.attach.ensures.log) c.lines-start.ensures.log;
       exist = rw (c.attach.ensures.log, c.attach.ensures.variables) c.lines-start.ensures.exist;
       variables = c.attach.ensures.variables ∙ c.reset.ensures.variables;
-      attached = c.in_ok-attach.ensures.ok;
+      may = (c.in_ok-attach.ensures.ok, tt);
     }
 
 pub returns-in_err-attach-clause-no_original : goal.returns-in_err-attach-clause-no_original

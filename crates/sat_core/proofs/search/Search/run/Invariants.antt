@@ -4,7 +4,7 @@ use Rattle.sat_log.specs.Checking.{AreUpTo}
 use Rattle.sat_core.specs.Gained.{gained, conflicts}
 use Rattle.sat_core.specs.Verdicts.{IsWithin}
 use Rattle.sat_trail.specs.Trail.{places}
-use Rattle.sat_core.specs.Search.{AskedFirst}
+use Rattle.sat_core.specs.Search.{AskedFirst, MayStep}
 use Rattle.sat_core.proofs.Runs.{HasLearned, left}
 use Rattle.sat_core.proofs.search.Search.run.Given as goal
 
@@ -17,7 +17,7 @@ invariant-loop-budget l = record {
   is_log : IsLog l.self.log;
   exist : AreUpTo l.self.variables l.self.log;
   variables : l.self.variables ≡ l.fn.self.variables;
-  attached : l.self.attached ≡ length l.self.log;
+  may : MayStep l.want l.asked l.self;
 }
 
 abbrev pub decreases-loop-budget : goal.decreases-loop-budget
