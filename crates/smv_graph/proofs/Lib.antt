@@ -6,3 +6,4 @@ pub mod Arrows
 pub mod Sweeps
 pub mod Leasts
 pub mod FirstWalks
+pub mod OffCycles

@@ -36,7 +36,7 @@ pub row_more : (row : List (Option ℕ)) (i : ℕ) (d x : Option ℕ) → i < le
 row_more row i d x l e = take_more row i d l ∙ ap (λ y. take i row ++ y ∷ []) e
 
 -- what is inserted is there, and nothing else is new
-inserted_only : (keys : List ℕ) (v b : ℕ) → Contains (insert_key eqb keys v) b → Contains keys b ⊎ (v ≡ b)
+pub inserted_only : (keys : List ℕ) (v b : ℕ) → Contains (insert_key eqb keys v) b → Contains keys b ⊎ (v ≡ b)
 inserted_only keys v b c = by_there (list_any (eqb v) keys) c
   where
     by_there : (t : Bool) → Contains (if t then keys else keys ++ v ∷ []) b → Contains keys b ⊎ (v ≡ b)

@@ -7,7 +7,7 @@ use indexmap::IndexSet;
 use std::alloc::{AllocError, Global};
 
 /// Whether a module is among these.
-fn has(reached: &IndexSet<usize>, number: usize) -> bool
+pub(crate) fn has(reached: &IndexSet<usize>, number: usize) -> bool
     ensures { IsTrue result ↔ Contains reached.now.keys number }
 {
     reached.contains(&number)

@@ -10,6 +10,7 @@ mod first_cycle;
 mod graph;
 mod numbers;
 mod reversed;
+mod settled;
 mod walks;
 
 pub use choice::StepOrder;

@@ -14,16 +14,22 @@ use smv_tree::{Name, Program};
 use std::alloc::{AllocError, Global};
 use type_fault::{Names, TypeFault};
 
-/// Whether a module is among those that are reached and contains itself.
+/// Whether a module is among those that are reached and contains itself, which those that are settled
+/// don't.
 fn is_contained(
     alloc: Global,
     graph: &Graph,
     reached: &IndexSet<usize>,
+    settled: &IndexSet<usize>,
     number: usize,
 ) -> Result<bool, AllocError>
+    requires { (a : ℕ) → Contains settled.now.keys a → ¬ IsOnCycle (Leads graph.now) a }
     ensures { IfOk result (λ is. IsTrue is ↔
         (Contains reached.now.keys number × IsOnCycle (Leads graph.now) number)) }
 {
+    if settled.contains(&number) {
+        return Ok(false);
+    }
     if reached.contains(&number) {
         let itself = graph.contains_itself(alloc, number)?;
         return Ok(itself);
@@ -33,7 +39,8 @@ fn is_contained(
 
 /// The number of the first declared module that `main` reaches and that contains itself, if one does.
 ///
-/// It takes a search of the graph for each module that is reached.
+/// It takes time linear in the graph where no module contains itself, and as many searches of it as
+/// modules lead to one that does.
 ///
 /// # Errors
 ///
@@ -45,8 +52,9 @@ pub fn first_contained(alloc: Global, p: &Program) -> Result<Option<usize>, Allo
     let numbers = module_numbers(alloc, p)?;
     let reached = reached_numbers(alloc, p, &numbers)?;
     let graph = Graph::of(alloc, p)?;
+    let settled = graph.settled(alloc)?;
     for number in 0..graph.len() {
-        if is_contained(alloc, &graph, &reached, number)? {
+        if is_contained(alloc, &graph, &reached, &settled, number)? {
             return Ok(Some(number));
         }
     }
