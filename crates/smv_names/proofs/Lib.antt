@@ -7,3 +7,5 @@ pub mod Resolving
 pub mod TablesMade
 pub mod ActualsMade
 pub mod KnownNames
+pub mod Subtrees
+pub mod Wholeness

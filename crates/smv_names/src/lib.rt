@@ -21,7 +21,7 @@ mod unknown;
 mod unknown_names;
 
 pub use declared::Declared;
-pub use laws::tables_tell_members;
+pub use laws::{modules_make_whole, tables_tell_members};
 pub use parameters::parameter_numbers;
 pub use references::{Lookup, with_references};
 pub use resolver::Resolver;
