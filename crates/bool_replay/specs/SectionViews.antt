@@ -1,5 +1,5 @@
 -- What the sections that the reader keeps stand for.
-use Rattle.std.specs.Prelude.{ℕ, ◌+◌, ◌<◌, List, [], length, map, Option, Some, None, vec_len}
+use Rattle.std.specs.Prelude.{ℕ, ◌+◌, ◌<◌, List, length, map, vec_len}
 use Rattle.bool_replay.specs.declared.sections.Kept.{Kept}
 use Rattle.bool_replay.specs.declared.sections.Reading.{Reading}
 use Rattle.bool_replay.specs.declared.sections.Reading.TheVariants as reading

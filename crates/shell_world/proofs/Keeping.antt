@@ -25,7 +25,7 @@ use Rattle.shell_world.specs.declared.refusal.Refusal.{Refusal}
 use Rattle.shell_world.specs.declared.refusal.Refusal.TheVariants as refusal
 use Rattle.shell_world.specs.declared.row.Row.{Row}
 use Rattle.shell_world.specs.declared.state.State.{State}
-use Rattle.shell_world.specs.Keeping.{Always, IsCaused, IsKept, IsKeptBut, KeepsRefused, KeepsRefusedBut, is_inner, last_count, tells_fault}
+use Rattle.shell_world.specs.Keeping.{Always, IsCaused, IsKept, KeepsRefused, KeepsRefusedBut, is_inner, last_count, tells_fault}
 use Rattle.shell_world.specs.Phases.{missing, phase_of, too_early}
 use Rattle.shell_world.specs.Processes.{Becomes, Chain, Each, Either, Ends, EndsSaying, ForSome, Knowing, MayLack, Process, Refuses, Where}
 use Rattle.shell_world.specs.Rows.{AfterRow, ByRow, Gives, WithRow, given_unless}

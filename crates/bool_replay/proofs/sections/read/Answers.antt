@@ -1,4 +1,4 @@
-use Rattle.std.proofs.Common.{◌+◌, length, arith}
+use Rattle.std.proofs.Common.{◌+◌, arith}
 use Rattle.bool_replay.specs.SectionViews.{progress_of}
 use Rattle.bool_replay.specs.TraceTexts.{add_lines, begun, content}
 use Rattle.bool_replay.proofs.ReadingLemmas.{line_more}
