@@ -18,6 +18,7 @@ use Rattle.shell_world.specs.declared.end.End.{End}
 use Rattle.shell_world.specs.declared.end.End.TheVariants as ends
 use Rattle.shell_world.specs.declared.state.State.{State}
 use Rattle.shell_world.specs.declared.event.Event.{Event}
+use Rattle.shell_world.specs.Happenings.{tells}
 use Rattle.shell_world.specs.Keeping.{Always, IsCaused, tells_fault}
 use Rattle.shell_world.specs.Processes.{Becomes, Chain, Each, Ends, LacksMemory, MayLack, Process, SaysIf}
 use Rattle.shell_world.specs.Scenes.{goes_along, goes_on}
@@ -98,7 +99,7 @@ commands_caused t nested k (Err fault) = says_leave caused_fact _ _ refl refl
 line_by_caused : TopicsCause → (nested : Script → Process) → ScriptsCause nested → (line : List ℕ) → Always (DoesLineBy nested line) IsCaused
 line_by_caused t nested k line = either_leave lacks_memory_caused (some_leave _ (λ answer. where_leave _ (λ is. commands_caused t nested k answer)))
 
-pub prompt_caused : (wanted : Bool) (said : Event) → tells_fault said ≡ false → Always (SaysIf wanted said) IsCaused
+pub prompt_caused : (wanted : Bool) (said : Event) → tells_fault (tells said) ≡ false → Always (SaysIf wanted said) IsCaused
 prompt_caused true said q = says_leave caused_fact _ _ q refl
 prompt_caused false said q = ends_leave caused_fact ends.Went refl
 

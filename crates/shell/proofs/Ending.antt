@@ -6,9 +6,9 @@ use Rattle.shell_world.specs.declared.end.End.{End}
 use Rattle.shell_world.specs.declared.end.End.TheVariants as ends
 use Rattle.shell_world.specs.declared.end.Next.{Next}
 use Rattle.shell_world.specs.declared.end.Next.TheVariants.{Go, Stop}
-use Rattle.shell_world.specs.declared.event.Event.{Event}
 use Rattle.shell_world.specs.declared.event.Side.{Side}
 use Rattle.shell_world.specs.declared.event.Side.TheVariants as side
+use Rattle.shell_world.specs.Happenings.{Happening}
 use Rattle.shell_world.specs.Keeping.{IsCaused}
 use Rattle.shell_world.specs.Processes.{Becomes, Chain, Either, Ends, EndsSaying}
 use Rattle.shell_world.specs.Scenes.{Scene, Told, after, after_refusal, is_go, quits}
@@ -45,12 +45,12 @@ said_not : (wanted end : End) → (wanted ≡ ends.InputFailed → ⊥) → ((en
 said_not wanted end n (inl e) f = n (sym e ∙ f)
 said_not wanted end n (inr e) f = cut_not (sym e ∙ f)
 
-follows_pass : TopicsCause → (prompts : Bool) (text : List ℕ) (old : Scene) (events : List Event) (end : End) (new : Scene) → end ≡ ends.InputFailed → old.input.left ≡ Some text → IsSilent old.input.faults new.input.faults → Follows prompts old events end new → PassesLimit text
+follows_pass : TopicsCause → (prompts : Bool) (text : List ℕ) (old : Scene) (events : List Happening) (end : End) (new : Scene) → end ≡ ends.InputFailed → old.input.left ≡ Some text → IsSilent old.input.faults new.input.faults → Follows prompts old events end new → PassesLimit text
 unfolding Ends
 follows_pass t true text old events end new f l i p = from_none text (turns_pass t true text f l i p)
 follows_pass t false text old events end new f l i p = absurd (quits_not (sym p.ended ∙ f))
 
-starts_pass : TopicsCause → (prompts : Bool) (script : Option (List ℕ)) (text : List ℕ) (old : Scene) (events : List Event) (end : End) (new : Scene) → end ≡ ends.InputFailed → old.input.left ≡ Some text → IsSilent old.input.faults new.input.faults → Starts prompts script old events end new → PassesLimit text
+starts_pass : TopicsCause → (prompts : Bool) (script : Option (List ℕ)) (text : List ℕ) (old : Scene) (events : List Happening) (end : End) (new : Scene) → end ≡ ends.InputFailed → old.input.left ≡ Some text → IsSilent old.input.faults new.input.faults → Starts prompts script old events end new → PassesLimit text
 unfolding Chain
 starts_pass t prompts None text old events end new f l i p = from_none text (turns_pass t prompts text f l i p)
 starts_pass t prompts (Some file) text old events end new f l i (inl p) =
@@ -59,7 +59,7 @@ starts_pass t prompts (Some file) text old events end new f l i (inr p) =
     let k : IsCaused old p.before p.middle p.mid = sourcing_caused t nesting_limit (plain_script file) old p.before p.middle p.mid p.first in
     follows_pass t prompts text p.mid p.behind end new f (ap (λ i. i.left) k.input ∙ l) (subst (λ n. IsSilent n new.input.faults) (sym (ap (λ i. i.faults) k.input)) i) p.second
 
-asked_passes : TopicsCause → (asked : Option Asked) (text : List ℕ) (old : Scene) (events : List Event) (end : End) (new : Scene) → end ≡ ends.InputFailed → old.input.left ≡ Some text → IsSilent old.input.faults new.input.faults → SessionAsked asked old events end new → PassesLimit text
+asked_passes : TopicsCause → (asked : Option Asked) (text : List ℕ) (old : Scene) (events : List Happening) (end : End) (new : Scene) → end ≡ ends.InputFailed → old.input.left ≡ Some text → IsSilent old.input.faults new.input.faults → SessionAsked asked old events end new → PassesLimit text
 unfolding Chain Either EndsSaying Becomes
 asked_passes t None text old events end new f l i p = absurd (said_not ends.Misused end misused_not p.ended f)
 asked_passes t (Some asked) text old events end new f l i (inl p) = absurd (said_not ends.NoMemory end memory_not p.ended f)
@@ -68,7 +68,7 @@ asked_passes t (Some asked) text old events end new f l i (inr (inr p)) =
     starts_pass t asked.prompts asked.script text p.mid p.behind end new f (ap (λ s. s.input.left) p.first.changed ∙ l) (subst (λ n. IsSilent n new.input.faults) (sym (ap (λ s. s.input.faults) p.first.changed)) i) p.second
 
 -- where no sink failed none was cut
-uncut_silent : (events : List Event) (e : End) (old new : Told) → Written events e old new → SinksAreSilent old new → e ≢ ends.Cut
+uncut_silent : (events : List Happening) (e : End) (old new : Told) → Written events e old new → SinksAreSilent old new → e ≢ ends.Cut
 uncut_silent events e old new (inl (n, w)) s = n
 uncut_silent events e old new (inr (x, k)) s = λ is. by_side (side_of k.last) k.breaks
   where

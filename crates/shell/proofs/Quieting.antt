@@ -16,6 +16,7 @@ use Rattle.shell_world.specs.declared.event.Event.TheVariants as event
 use Rattle.shell_world.specs.declared.shell_event.ShellEvent.TheVariants as shell
 use Rattle.shell_world.specs.declared.refusal.Refusal.TheVariants as refusal
 use Rattle.shell_world.specs.declared.state.State.{State}
+use Rattle.shell_world.specs.Happenings.{Happening, tells}
 use Rattle.shell_world.specs.Keeping.{Always, IsCaused, last_count, tells_fault}
 use Rattle.shell_world.specs.Processes.{Chain, Ends, EndsSaying, Process}
 use Rattle.shell_world.specs.Scenes.{Scene, goes_along, goes_on}
@@ -28,7 +29,7 @@ use Rattle.shell.proofs.Causing.{TopicsCause, lacks_memory_caused, prompt_caused
 use Rattle.shell.proofs.Turning.{input_caused, silent_not}
 
 -- no fault is told where no count of the files and of the input rises
-pub record IsQuiet (old : Scene) (events : List Event) (end : End) (new : Scene) : Type 0 where
+pub record IsQuiet (old : Scene) (events : List Happening) (end : End) (new : Scene) : Type 0 where
   pub disk : old.disk.faults ≤ last_count → (old.disk.faults ≤ new.disk.faults) × (new.disk.faults ≤ last_count)
   pub input : old.input.faults ≤ last_count → (old.input.faults ≤ new.input.faults) × (new.input.faults ≤ last_count)
   pub quiet : IsSilent old.disk.faults new.disk.faults → IsSilent old.input.faults new.input.faults → list_any tells_fault events ≡ false
@@ -46,7 +47,7 @@ halves a b c f g s =
     let e : b ≡ a = omega (arith, k.0, l.0, s.same) in
     (record { same = e; could = s.could }, record { same = s.same ∙ sym e; could = subst (λ n. n < last_count) (sym e) s.could })
 
-quiet_both : {old mid new : Scene} {before events : List Event} {middle end : End} → IsQuiet old before middle mid → IsQuiet mid events end new → IsQuiet old (before ++ events) end new
+quiet_both : {old mid new : Scene} {before events : List Happening} {middle end : End} → IsQuiet old before middle mid → IsQuiet mid events end new → IsQuiet old (before ++ events) end new
 quiet_both {old = old} {mid = mid} {new = new} {before = before} {events = events} k l = record {
   disk = λ low. rise old.disk.faults mid.disk.faults new.disk.faults k.disk l.disk low;
   input = λ low. rise old.input.faults mid.input.faults new.input.faults k.input l.input low;
@@ -69,14 +70,14 @@ chain_quiet leads k l old events end new (inr p) =
     subst (λ es. IsQuiet old es end new) (sym p.joined) (quiet_both (k old p.before p.middle p.mid p.first) (l p.mid p.behind end new p.second))
 
 -- a scene that stays, with events that tell no fault
-stays_quiet : {old new : Scene} {events : List Event} {end : End} → new ≡ old → list_any tells_fault events ≡ false → IsQuiet old events end new
+stays_quiet : {old new : Scene} {events : List Happening} {end : End} → new ≡ old → list_any tells_fault events ≡ false → IsQuiet old events end new
 stays_quiet same none = record {
   disk = count_step (inl (ap (λ s. s.disk.faults) same));
   input = count_step (inl (ap (λ s. s.input.faults) same));
   quiet = λ d i. none;
 }
 
-says_quiet : (said : Event) (wanted : End) → tells_fault said ≡ false → Always (EndsSaying said wanted) IsQuiet
+says_quiet : (said : Event) (wanted : End) → tells_fault (tells said) ≡ false → Always (EndsSaying said wanted) IsQuiet
 unfolding EndsSaying
 says_quiet said wanted q old events end new p = stays_quiet p.same (ap (λ es. list_any tells_fault es) p.told ∙ ap (λ t. t || false) q)
 
@@ -127,7 +128,7 @@ after_read t count (Err (faults.NoMemory e)) = chain_quiet goes_along (takes_qui
 turn_quiet : TopicsCause → (prompts : Bool) (count : ℕ) → Always (Turn prompts count) IsQuiet
 turn_quiet t prompts count = chain_quiet goes_along (caused_quiet (prompt_caused prompts (event.Shell shell.Prompt) refl)) (some_leave _ (after_read t count))
 
-turns_quiet : TopicsCause → (prompts : Bool) {count : ℕ} {old : Scene} {events : List Event} {end : End} {new : Scene} → Turns prompts count old events end new → IsQuiet old events end new
+turns_quiet : TopicsCause → (prompts : Bool) {count : ℕ} {old : Scene} {events : List Happening} {end : End} {new : Scene} → Turns prompts count old events end new → IsQuiet old events end new
 turns_quiet t prompts (stops count old events end new turn halt) = turn_quiet t prompts count old events end new turn
 turns_quiet t prompts (goes count old first end mid others last new turn on rest) = quiet_both (turn_quiet t prompts count old first end mid turn) (turns_quiet t prompts rest)
 
@@ -143,5 +144,5 @@ asked_quiet : TopicsCause → (asked : Option Asked) → Always (SessionAsked as
 asked_quiet t None = says_quiet event.Usage ends.Misused refl
 asked_quiet t (Some asked) = either_leave (caused_quiet lacks_memory_caused) (chain_quiet goes_along (caused_quiet (becomes_caused (naming asked.model))) (starts_quiet t asked.prompts asked.script))
 
-pub session_quiet : TopicsCause → (words : List (List ℕ)) (old : Scene) (events : List Event) (end : End) (new : Scene) → Session words old events end new → IsSilent old.disk.faults new.disk.faults → IsSilent old.input.faults new.input.faults → list_any tells_fault events ≡ false
+pub session_quiet : TopicsCause → (words : List (List ℕ)) (old : Scene) (events : List Happening) (end : End) (new : Scene) → Session words old events end new → IsSilent old.disk.faults new.disk.faults → IsSilent old.input.faults new.input.faults → list_any tells_fault events ≡ false
 session_quiet t words old events end new p d i = (asked_quiet t (asked_by (Some nothing_asked) words) old events end new p).quiet d i

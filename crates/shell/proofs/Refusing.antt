@@ -19,7 +19,7 @@ use Rattle.shell_settings.specs.declared.settings.SettingsCommand.{SettingsComma
 use Rattle.shell_settings.specs.Settings.{DoesSettings}
 use Rattle.shell_world.specs.declared.end.End.{End}
 use Rattle.shell_world.specs.declared.end.End.TheVariants as ends
-use Rattle.shell_world.specs.declared.event.Event.{Event}
+use Rattle.shell_world.specs.Happenings.{Happening}
 use Rattle.shell_world.specs.Keeping.{Always, IsKept, IsKeptBut, KeepsRefused}
 use Rattle.shell_world.specs.Processes.{Becomes, Chain, Each, Either, Ends, EndsSaying, ForSome, Knowing, LacksMemory, MayLack, Where}
 use Rattle.shell_world.specs.Scenes.{Scene, goes_along}
@@ -57,11 +57,11 @@ help_leaves [] = may_lack_leave still_fact (some_leave _ (λ words. where_leave 
 help_leaves (word ∷ words) = on_leaves word (command_of word)
 
 -- `echo`, where no file is given and where one is
-echo_kept : (given : Given) (file : Option (List ℕ)) (old : Scene) (events : List Event) (end : End) (new : Scene) → end ≡ ends.Refused → EchoesTo given file old events end new → IsKept old new ⊎ ((name : List ℕ) × (file ≡ Some name) × IsKeptBut name (echoed given) old new)
+echo_kept : (given : Given) (file : Option (List ℕ)) (old : Scene) (events : List Happening) (end : End) (new : Scene) → end ≡ ends.Refused → EchoesTo given file old events end new → IsKept old new ⊎ ((name : List ℕ) × (file ≡ Some name) × IsKeptBut name (echoed given) old new)
 echo_kept given None old events end new r p = inl (said_kept _ _ _ _ p)
 echo_kept given (Some name) old events end new r p = inr (name, refl, stores_refused name (echoed given) old events end new r p)
 
-echo_little : (words : List (List ℕ)) (old : Scene) (events : List Event) (end : End) (new : Scene) → end ≡ ends.Refused → Echoes words old events end new → IsKept old new ⊎ BreaksFile words old new
+echo_little : (words : List (List ℕ)) (old : Scene) (events : List Happening) (end : End) (new : Scene) → end ≡ ends.Refused → Echoes words old events end new → IsKept old new ⊎ BreaksFile words old new
 unfolding Either
 echo_little words old events end new r p = given_row (by_row ECHO words (λ given. MayLack (EchoesTo given (echo_file given))) old events end new p)
   where
@@ -78,7 +78,7 @@ echo_little words old events end new r p = given_row (by_row ECHO words (λ give
     given_row (inr (given, o, q)) = lacking given o q
 
 -- a script that was not read
-lacks_script : (script : Script) (fault : FileFault) (events : List Event) (end : End) {old new : Scene} → LacksScript script fault old events end new → IsKept old new
+lacks_script : (script : Script) (fault : FileFault) (events : List Happening) (end : End) {old new : Scene} → LacksScript script fault old events end new → IsKept old new
 lacks_script script faults.NotThere events end {old = old} {new = new} p = by_test script.lenient p
   where
     by_test : (t : Bool) → Unless t (RefusesFile script_limit script.file faults.NotThere) old events end new → IsKept old new
@@ -89,7 +89,7 @@ lacks_script script faults.Failed events end p = refusal_kept _ events end p
 lacks_script script (faults.NoMemory e) events end p = refusal_kept _ events end p
 
 -- a script that is refused itself changes nothing, and else its lines alone do
-sourced : (depth : ℕ) (script : Script) (old : Scene) (events : List Event) (end : End) (new : Scene) → end ≡ ends.Refused → Sourcing depth script old events end new → IsKept old new ⊎ RunsScriptLines depth script old new
+sourced : (depth : ℕ) (script : Script) (old : Scene) (events : List Happening) (end : End) (new : Scene) → end ≡ ends.Refused → Sourcing depth script old events end new → IsKept old new ⊎ RunsScriptLines depth script old new
 unfolding Sourcing ForSome Chain
 sourced zero script old events end new r p = inl (said_kept _ _ _ _ p)
 sourced (suc depth) script old events end new r (answer, inl p) = inl (reads_still _ _ _ old events end new p.first).kept
@@ -103,7 +103,7 @@ sourced (suc depth) script old events end new r (Ok text, inr p) = inr record {
 sourced (suc depth) script old events end new r (Err fault, inr p) =
     inl (kept_both (reads_still _ _ _ old p.before p.middle p.mid p.first).kept (lacks_script script fault _ _ p.second))
 
-source_little : (depth : ℕ) (words : List (List ℕ)) (old : Scene) (events : List Event) (end : End) (new : Scene) → end ≡ ends.Refused → DoesSource (Sourcing depth) words old events end new → IsKept old new ⊎ RunsGiven depth words old new
+source_little : (depth : ℕ) (words : List (List ℕ)) (old : Scene) (events : List Happening) (end : End) (new : Scene) → end ≡ ends.Refused → DoesSource (Sourcing depth) words old events end new → IsKept old new ⊎ RunsGiven depth words old new
 source_little depth words old events end new r p = given_row (by_row SOURCE words (λ given. DoesGiven (Sourcing depth) (given_script given)) old events end new p)
   where
     ran : (given : Given) → Options SOURCE.table words (Ok given) → (script : Script) → given_script given ≡ Some script → (IsKept old new ⊎ RunsScriptLines depth script old new) → IsKept old new ⊎ RunsGiven depth words old new
@@ -119,7 +119,7 @@ source_little depth words old events end new r p = given_row (by_row SOURCE word
     given_row (inr (given, o, q)) = by_script given o (given_script given) refl q
 
 -- a command changes nothing, or what it may
-pub named_little : TopicsKeep → (depth : ℕ) (c : Command) (words : List (List ℕ)) (old : Scene) (events : List Event) (end : End) (new : Scene) → end ≡ ends.Refused → DoesNamed (Sourcing depth) c words old events end new → ChangesLittle depth c words old new
+pub named_little : TopicsKeep → (depth : ℕ) (c : Command) (words : List (List ℕ)) (old : Scene) (events : List Happening) (end : End) (new : Scene) → end ≡ ends.Refused → DoesNamed (Sourcing depth) c words old events end new → ChangesLittle depth c words old new
 named_little t depth (command.Settings c) words old events end new r p = inl (t.settings c words old events end new r p)
 named_little t depth (command.Model c) words old events end new r p = inl (t.model c words old events end new r p)
 named_little t depth (command.Trace c) words old events end new r p = inl (t.trace c words old events end new r p)
@@ -132,7 +132,7 @@ named_little t depth (command.Shell own.Reset) words old events end new r p =
 named_little t depth (command.Shell own.Source) words old events end new r p = source_little depth words old events end new r p
 
 -- the same of a command of a line
-pub command_kept : TopicsKeep → (depth : ℕ) (pieces : List (List Piece)) (old : Scene) (events : List Event) (end : End) (new : Scene) → end ≡ ends.Refused → DoesCommand (Sourcing depth) pieces old events end new → IsKept old new ⊎ ChangesMore depth pieces old new
+pub command_kept : TopicsKeep → (depth : ℕ) (pieces : List (List Piece)) (old : Scene) (events : List Happening) (end : End) (new : Scene) → end ≡ ends.Refused → DoesCommand (Sourcing depth) pieces old events end new → IsKept old new ⊎ ChangesMore depth pieces old new
 unfolding Either ForSome Where Knowing
 command_kept t depth pieces old events end new r (inl (said, (number, p))) = inl (said_kept _ _ _ _ p)
 command_kept t depth pieces old events end new r (inr (answer, (is, p))) = by_answer answer is p
@@ -151,7 +151,7 @@ command_kept t depth pieces old events end new r (inr (answer, (is, p))) = by_an
     by_answer (Err fault) x q = inl (said_kept _ _ _ _ q)
 
 -- a line that is refused did what its commands before the refused one did
-pub commands_kept : TopicsKeep → (depth : ℕ) (commands : List (List (List Piece))) (old : Scene) (events : List Event) (end : End) (new : Scene) → end ≡ ends.Refused → Each goes_along (DoesCommand (Sourcing depth)) commands old events end new → RefusedAfter depth commands old new
+pub commands_kept : TopicsKeep → (depth : ℕ) (commands : List (List (List Piece))) (old : Scene) (events : List Happening) (end : End) (new : Scene) → end ≡ ends.Refused → Each goes_along (DoesCommand (Sourcing depth)) commands old events end new → RefusedAfter depth commands old new
 unfolding Chain Ends
 commands_kept t depth [] old events end new r p = absurd (refused_not_went r p.ended)
 commands_kept t depth (pieces ∷ commands) old events end new r (inl p) = record {
@@ -178,7 +178,7 @@ commands_kept t depth (pieces ∷ commands) old events end new r (inr p) =
     }
 
 -- want of memory outside a command is no refusal
-lacking_not : (old : Scene) (events : List Event) (end : End) (new : Scene) → end ≡ ends.Refused → LacksMemory old events end new → ⊥
+lacking_not : (old : Scene) (events : List Happening) (end : End) (new : Scene) → end ≡ ends.Refused → LacksMemory old events end new → ⊥
 unfolding EndsSaying
 lacking_not old events end new r p = by_end p.ended
   where
@@ -192,19 +192,19 @@ lacking_not old events end new r p = by_end p.ended
     by_end (inl e) = no_memory (sym e ∙ r)
     by_end (inr e) = cut (sym e ∙ r)
 
-pub line_kept : TopicsKeep → (depth : ℕ) (line : List ℕ) (old : Scene) (events : List Event) (end : End) (new : Scene) → end ≡ ends.Refused → DoesLine depth line old events end new → RefusedLine depth line old new
+pub line_kept : TopicsKeep → (depth : ℕ) (line : List ℕ) (old : Scene) (events : List Happening) (end : End) (new : Scene) → end ≡ ends.Refused → DoesLine depth line old events end new → RefusedLine depth line old new
 unfolding Either ForSome Where
 line_kept t depth line old events end new r (inl p) = absurd (lacking_not old events end new r p)
 line_kept t depth line old events end new r (inr (Ok commands, (s, p))) = inr (commands, s, commands_kept t depth commands old events end new r p)
 line_kept t depth line old events end new r (inr (Err fault, (s, p))) = inl (fault, s, said_kept _ _ _ _ p)
 
-found_kept : TopicsKeep → (found : List ℕ) (old : Scene) (events : List Event) (end : End) (new : Scene) → end ≡ ends.Refused → DoesRecalled (Ok found) old events end new → RefusedLine nesting_limit found (record old { state = remembered found old.state }) new
+found_kept : TopicsKeep → (found : List ℕ) (old : Scene) (events : List Happening) (end : End) (new : Scene) → end ≡ ends.Refused → DoesRecalled (Ok found) old events end new → RefusedLine nesting_limit found (record old { state = remembered found old.state }) new
 unfolding Chain Becomes
 found_kept t found old events end new r (inl p) = absurd (refused_not_went r p.first.ended)
 found_kept t found old events end new r (inr p) =
     subst (λ mid. RefusedLine nesting_limit found mid new) p.first.changed (line_kept t nesting_limit found p.mid p.behind end new r p.second)
 
-pub input_kept : TopicsKeep → (line : List ℕ) (old : Scene) (events : List Event) (end : End) (new : Scene) → end ≡ ends.Refused → DoesInput line old events end new → RefusedInput line old new
+pub input_kept : TopicsKeep → (line : List ℕ) (old : Scene) (events : List Happening) (end : End) (new : Scene) → end ≡ ends.Refused → DoesInput line old events end new → RefusedInput line old new
 unfolding Either Knowing
 input_kept t line old events end new r (inl p) = absurd (lacking_not old events end new r p)
 input_kept t line old events end new r (inr p) = by_answer (recalled old.state.past line) refl p

@@ -16,10 +16,10 @@ use Rattle.shell_lang.specs.declared.fault.LangFault.{LangFault}
 use Rattle.shell_lang.specs.Recall.{recalled}
 use Rattle.shell_world.specs.declared.end.End.{End}
 use Rattle.shell_world.specs.declared.end.End.TheVariants as ends
-use Rattle.shell_world.specs.declared.event.Event.{Event}
 use Rattle.shell_world.specs.declared.event.Event.TheVariants as event
 use Rattle.shell_world.specs.declared.shell_event.ShellEvent.TheVariants as shell
 use Rattle.shell_world.specs.declared.state.State.{State}
+use Rattle.shell_world.specs.Happenings.{Happening}
 use Rattle.shell_world.specs.Keeping.{Always, IsCaused, is_inner, last_count}
 use Rattle.shell_world.specs.Processes.{Chain, Ends, EndsSaying, ForSome, SaysIf}
 use Rattle.shell_world.specs.Scenes.{Scene, goes_along, goes_on}
@@ -65,12 +65,12 @@ cut_or state w (inl e) = ap (goes_on state) e ∙ w
 cut_or state w (inr e) = ap (goes_on state) e
 
 -- the scene after a prompt, and its end where it did not go well
-prompt_same : (prompts : Bool) (old : Scene) (events : List Event) (end : End) (new : Scene) → SaysIf prompts (event.Shell shell.Prompt) old events end new → new ≡ old
+prompt_same : (prompts : Bool) (old : Scene) (events : List Happening) (end : End) (new : Scene) → SaysIf prompts (event.Shell shell.Prompt) old events end new → new ≡ old
 unfolding EndsSaying Ends
 prompt_same true old events end new p = p.same
 prompt_same false old events end new p = p.same
 
-prompt_cut : (prompts : Bool) (old : Scene) (events : List Event) (end : End) (new : Scene) → SaysIf prompts (event.Shell shell.Prompt) old events end new → goes_along new.state end ≡ false → end ≡ ends.Cut
+prompt_cut : (prompts : Bool) (old : Scene) (events : List Happening) (end : End) (new : Scene) → SaysIf prompts (event.Shell shell.Prompt) old events end new → goes_along new.state end ≡ false → end ≡ ends.Cut
 unfolding EndsSaying Ends
 prompt_cut true old events end new p g = by_end p.ended
   where
@@ -89,7 +89,7 @@ memory_not : ends.NoMemory ≡ ends.InputFailed → ⊥
 memory_not e = cc
 
 -- what is done about what was read
-treats_gives : TopicsCause → (count : ℕ) (text : List ℕ) (answer : Result Line LineFault) (start old : Scene) (events : List Event) (end : End) (new : Scene) → start.input.left ≡ Some text → ReadsLine line_limit start.input answer old.input → Treats count answer old events end new → TurnGives count text start end new
+treats_gives : TopicsCause → (count : ℕ) (text : List ℕ) (answer : Result Line LineFault) (start old : Scene) (events : List Happening) (end : End) (new : Scene) → start.input.left ≡ Some text → ReadsLine line_limit start.input answer old.input → Treats count answer old events end new → TurnGives count text start end new
 unfolding EndsSaying Ends
 treats_gives t count text (Ok lines.End) start old events end new l r p =
     over (λ e. quits_not (sym p.ended ∙ e)) (ap (goes_on new.state) p.ended)
@@ -120,7 +120,7 @@ treats_gives t count text (Err (faults.NoMemory m)) start old events end new l r
     by_end (inr x) e = cut_not (sym x ∙ e)
 
 -- a turn
-turn_gives : TopicsCause → (prompts : Bool) (count : ℕ) (text : List ℕ) (old : Scene) (events : List Event) (end : End) (new : Scene) → old.input.left ≡ Some text → Turn prompts count old events end new → TurnGives count text old end new
+turn_gives : TopicsCause → (prompts : Bool) (count : ℕ) (text : List ℕ) (old : Scene) (events : List Happening) (end : End) (new : Scene) → old.input.left ≡ Some text → Turn prompts count old events end new → TurnGives count text old end new
 unfolding Chain ForSome TakesLine
 turn_gives t prompts count text old events end new l (inl p) =
     let c : end ≡ ends.Cut = prompt_cut prompts old events end new p.first p.stops in
@@ -139,7 +139,7 @@ abbrev pub PassesFrom : ℕ → List ℕ → Type 0
 PassesFrom count text = (has_long_line text ≡ true) ⊎ (most_lines < count + length (lines_of text))
 
 -- a session that the input ended passed a limit of it
-pub turns_pass : TopicsCause → (prompts : Bool) (text : List ℕ) {count : ℕ} {old : Scene} {events : List Event} {end : End} {new : Scene} → end ≡ ends.InputFailed → old.input.left ≡ Some text → IsSilent old.input.faults new.input.faults → Turns prompts count old events end new → PassesFrom count text
+pub turns_pass : TopicsCause → (prompts : Bool) (text : List ℕ) {count : ℕ} {old : Scene} {events : List Happening} {end : End} {new : Scene} → end ≡ ends.InputFailed → old.input.left ≡ Some text → IsSilent old.input.faults new.input.faults → Turns prompts count old events end new → PassesFrom count text
 turns_pass t prompts text f l i (stops count old events end new turn halt) = by_gift (turn_gives t prompts count text old events end new l turn)
   where
     last_of : TookLine text new.input.left → count ≡ most_lines → most_lines < count + length (lines_of text)

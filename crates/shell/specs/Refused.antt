@@ -8,7 +8,7 @@ use Rattle.shell_lang.specs.Filled.{Expands}
 use Rattle.shell_lang.specs.Lines.{Splits}
 use Rattle.shell_lang.specs.Recall.{recalled}
 use Rattle.shell_world.specs.declared.end.End.TheVariants as ends
-use Rattle.shell_world.specs.declared.event.Event.{Event}
+use Rattle.shell_world.specs.Happenings.{Happening}
 use Rattle.shell_world.specs.Keeping.{IsKept, IsKeptBut}
 use Rattle.shell_world.specs.Processes.{Each}
 use Rattle.shell_world.specs.Scenes.{Scene, goes_along}
@@ -34,7 +34,7 @@ pub record BreaksFile (words : List (List ℕ)) (old new : Scene) : Type 0 where
 pub record RunsLines (depth : ℕ) (script : Script) (old new : Scene) : Type 0 where
   pub text : List ℕ
   pub mid : Scene
-  pub events : List Event
+  pub events : List Happening
   pub kept : IsKept old mid
   pub lines : DoesScriptLines (DoesLine depth) script text mid events ends.Refused new
 
@@ -78,7 +78,7 @@ pub record RefusedAfter (depth : ℕ) (commands : List (List (List Piece)))
   pub before : List (List (List Piece))
   pub refused : List (List Piece)
   pub behind : List (List (List Piece))
-  pub events : List Event
+  pub events : List Happening
   pub mid : Scene
   pub are : commands ≡ before ++ refused ∷ behind
   pub went : Each goes_along (DoesCommand (Sourcing depth)) before old events ends.Went mid

@@ -14,11 +14,11 @@ use Rattle.shell_lang.specs.Past.{remembering}
 use Rattle.shell_lang.specs.Recall.{recalled}
 use Rattle.shell_world.specs.declared.end.End.{End}
 use Rattle.shell_world.specs.declared.end.End.TheVariants as ends
-use Rattle.shell_world.specs.declared.event.Event.{Event}
 use Rattle.shell_world.specs.declared.event.Event.TheVariants as event
 use Rattle.shell_world.specs.declared.shell_event.ShellEvent.TheVariants as shell
 use Rattle.shell_world.specs.declared.refusal.Refusal.TheVariants as refusal
 use Rattle.shell_world.specs.declared.state.State.{State}
+use Rattle.shell_world.specs.Happenings.{Happening}
 use Rattle.shell_world.specs.Processes.{Becomes, Chain, Either, Ends, EndsSaying, ForSome, Knowing, LacksMemory, Process, Refuses, SaysIf, Then}
 use Rattle.shell_world.specs.Scenes.{Scene, goes_on}
 use Rattle.shell_world.specs.Steps.{TakesLine}
@@ -75,13 +75,13 @@ Turn prompts count =
     (ForSome (λ answer. Then (TakesLine line_limit answer) (Treats count answer)))
 
 -- the turns of a session after so many lines, up to the one that does not go on
-pub data Turns (prompts : Bool) : ℕ → Scene → List Event → End → Scene → Type 0 where
-  stops : (count : ℕ) (old : Scene) (events : List Event) (end : End) (new : Scene)
+pub data Turns (prompts : Bool) : ℕ → Scene → List Happening → End → Scene → Type 0 where
+  stops : (count : ℕ) (old : Scene) (events : List Happening) (end : End) (new : Scene)
       → Turn prompts count old events end new
       → goes_on new.state end ≡ false
       → Turns prompts count old events end new
-  goes : (count : ℕ) (old : Scene) (first : List Event) (end : End) (mid : Scene)
-      (others : List Event) (last : End) (new : Scene)
+  goes : (count : ℕ) (old : Scene) (first : List Happening) (end : End) (mid : Scene)
+      (others : List Happening) (last : End) (new : Scene)
       → Turn prompts count old first end mid
       → goes_on mid.state end ≡ true
       → Turns prompts (count + 1) mid others last new

@@ -1,9 +1,9 @@
 ghost use Rattle.std.specs.Prelude.{◌≡◌, ℕ, false, List, Some};
 ghost use Rattle.std.specs.List.{list_any};
 ghost use Rattle.shell_world.specs.declared.end.End.{End};
+ghost use Rattle.shell_world.specs.Happenings.{Happening};
 ghost use Rattle.shell_world.specs.Keeping.{tells_fault};
 ghost use Rattle.shell_world.specs.declared.end.End.TheVariants as ends;
-ghost use Rattle.shell_world.specs.declared.event.Event.{Event};
 ghost use Rattle.shell_world.specs.Scenes.{Scene, Told};
 ghost use Rattle.shell.specs.declared.rows.Command.{Command};
 ghost use Rattle.shell.specs.Closing.{Closes};
@@ -20,13 +20,13 @@ use shell_settings::{refused_setting_changes_nothing, settings_have_causes};
 /// is refused did what its commands before the refused one did. A line of input is remembered first.
 pub fn refused_line_changes_nothing()
     ensures command { (depth : ℕ) (c : Command) (words : List (List ℕ)) (old : Scene)
-        (events : List Event) (new : Scene) →
+        (events : List Happening) (new : Scene) →
         DoesNamed (Sourcing depth) c words old events ends.Refused new →
         ChangesLittle depth c words old new }
-    ensures line { (depth : ℕ) (line : List ℕ) (old : Scene) (events : List Event)
+    ensures line { (depth : ℕ) (line : List ℕ) (old : Scene) (events : List Happening)
         (new : Scene) → DoesLine depth line old events ends.Refused new →
         RefusedLine depth line old new }
-    ensures input { (line : List ℕ) (old : Scene) (events : List Event) (new : Scene) →
+    ensures input { (line : List ℕ) (old : Scene) (events : List Happening) (new : Scene) →
         DoesInput line old events ends.Refused new → RefusedInput line old new }
 {
     refused_setting_changes_nothing();
@@ -47,7 +47,7 @@ pub fn sound_sessions_end_well()
 
 /// A session over an input and files of which none fails tells no fault of either.
 pub fn sound_sessions_tell_no_fault()
-    ensures { (words : List (List ℕ)) (old : Scene) (events : List Event) (end : End)
+    ensures { (words : List (List ℕ)) (old : Scene) (events : List Happening) (end : End)
         (new : Scene) → SessionOf words old events end new →
         IsSilent old.disk.faults new.disk.faults → IsSilent old.input.faults new.input.faults →
         list_any tells_fault events ≡ false }

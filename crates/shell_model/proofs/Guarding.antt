@@ -20,6 +20,7 @@ use Rattle.bool_replay.specs.declared.verdict.Verdict.TheVariants as verdict
 use Rattle.shell_world.specs.declared.event.Event.TheVariants as event
 use Rattle.shell_world.specs.declared.log_event.LogEvent.{LogEvent}
 use Rattle.shell_world.specs.declared.state.State.{State}
+use Rattle.shell_world.specs.Happenings.{tells}
 use Rattle.shell_world.specs.Processes.{MayLack}
 use Rattle.shell_world.specs.Scenes.{goes_along}
 use Rattle.shell_world.specs.Steps.{WithFirst}
@@ -41,7 +42,7 @@ pub log_guards : (c : LogCommand) (words : List (List ℕ)) → Always (DoesLog 
 log_guards log_command.CheckLog words = row_leave guards_fact CHECK_LOG words (λ given. WithFirst ChecksFile given.rest) (λ given. first_leave guards_fact ChecksFile given.rest (λ name. file_leave guards_fact log_limit name ChecksText checks_leave))
 
 -- a text that is no model is no fault of the outside
-model_quiet : (f : ModelFault) → tells_fault (event.Refused (model_refusal f)) ≡ false
+model_quiet : (f : ModelFault) → tells_fault (tells (event.Refused (model_refusal f))) ≡ false
 model_quiet (model_fault.Text f) = refl
 model_quiet model_fault.NotBuilt = refl
 model_quiet model_fault.NoMemory = refl

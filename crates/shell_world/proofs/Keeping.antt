@@ -25,29 +25,30 @@ use Rattle.shell_world.specs.declared.refusal.Refusal.{Refusal}
 use Rattle.shell_world.specs.declared.refusal.Refusal.TheVariants as refusal
 use Rattle.shell_world.specs.declared.row.Row.{Row}
 use Rattle.shell_world.specs.declared.state.State.{State}
+use Rattle.shell_world.specs.Happenings.{Asked, Happening, tells}
 use Rattle.shell_world.specs.Keeping.{Always, IsCaused, IsKept, KeepsRefused, KeepsRefusedBut, is_inner, last_count, tells_fault}
 use Rattle.shell_world.specs.Phases.{missing, phase_of, too_early}
-use Rattle.shell_world.specs.Processes.{Becomes, Chain, Each, Either, Ends, EndsSaying, ForSome, Knowing, MayLack, Process, Refuses, Where}
+use Rattle.shell_world.specs.Processes.{Asks, Becomes, Chain, Each, Either, Ends, EndsSaying, ForSome, Knowing, MayLack, Process, Refuses, Where}
 use Rattle.shell_world.specs.Rows.{AfterRow, ByRow, Gives, WithRow, given_unless}
 use Rattle.shell_world.specs.Scenes.{Scene, goes_along}
 use Rattle.shell_world.specs.Steps.{AfterFile, AfterStore, ReadsWhole, RefusesFile, Stores, WithFile, WithFirst, WritesWhole, file_refusal}
 use Rattle.shell_world.specs.Texts.{refusal_number}
 
 -- nothing changed
-pub record Still (old : Scene) (events : List Event) (end : End) (new : Scene) : Type 0 where
+pub record Still (old : Scene) (events : List Happening) (end : End) (new : Scene) : Type 0 where
   pub kept : IsKept old new
   pub caused : IsCaused old events end new
 
 -- nothing changed where it was refused, and the remembered lines did not
-pub record Guards (old : Scene) (events : List Event) (end : End) (new : Scene) : Type 0 where
+pub record Guards (old : Scene) (events : List Happening) (end : End) (new : Scene) : Type 0 where
   pub past : new.state.past ≡ old.state.past
   pub refused : end ≡ ends.Refused → IsKept old new
   pub caused : IsCaused old events end new
 
 -- the fact holds where nothing changed, and of more that is done behind that
 pub record IsFact (R : Process) : Type 0 where
-  pub still : (old : Scene) (events : List Event) (end : End) (new : Scene) → Still old events end new → R old events end new
-  pub behind : (old mid : Scene) (before events : List Event) (middle end : End) (new : Scene) → Still old before middle mid → R mid events end new → R old (before ++ events) end new
+  pub still : (old : Scene) (events : List Happening) (end : End) (new : Scene) → Still old events end new → R old events end new
+  pub behind : (old mid : Scene) (before events : List Happening) (middle end : End) (new : Scene) → Still old before middle mid → R mid events end new → R old (before ++ events) end new
 
 pub kept_same : {old new : Scene} → new ≡ old → IsKept old new
 kept_same e = record { state = ap (λ s. s.state) e; input = ap (λ s. s.input) e; held = ap (λ s. s.disk.held) e }
@@ -55,7 +56,7 @@ kept_same e = record { state = ap (λ s. s.state) e; input = ap (λ s. s.input) 
 pub kept_both : {old mid new : Scene} → IsKept old mid → IsKept mid new → IsKept old new
 kept_both k l = record { state = l.state ∙ k.state; input = l.input ∙ k.input; held = l.held ∙ k.held }
 
-pub caused_both : {old mid new : Scene} {before events : List Event} {middle end : End} → IsCaused old before middle mid → IsCaused mid events end new → IsCaused old (before ++ events) end new
+pub caused_both : {old mid new : Scene} {before events : List Happening} {middle end : End} → IsCaused old before middle mid → IsCaused mid events end new → IsCaused old (before ++ events) end new
 caused_both {old = old} {mid = mid} {new = new} {before = before} {events = events} k l = record {
   input = l.input ∙ k.input;
   inner = l.inner;
@@ -80,24 +81,24 @@ caused_both {old = old} {mid = mid} {new = new} {before = before} {events = even
         list_any-append tells_fault before events ∙ (ap (λ t. t || list_any tells_fault events) a ∙ b)
 
 -- what is told, and an end alone, change nothing
-pub said_kept : (said : Event) (wanted : End) (events : List Event) (end : End) {old new : Scene} → EndsSaying said wanted old events end new → IsKept old new
+pub said_kept : (said : Event) (wanted : End) (events : List Happening) (end : End) {old new : Scene} → EndsSaying said wanted old events end new → IsKept old new
 unfolding EndsSaying
 said_kept said wanted events end p = kept_same p.same
 
-pub ended_kept : (wanted : End) (events : List Event) (end : End) {old new : Scene} → Ends wanted old events end new → IsKept old new
+pub ended_kept : (wanted : End) (events : List Happening) (end : End) {old new : Scene} → Ends wanted old events end new → IsKept old new
 unfolding Ends
 ended_kept wanted events end p = kept_same p.same
 
-pub lack_kept : (events : List Event) (end : End) {old new : Scene} → ForSome (λ r. Where (refusal_number r ≡ 900) (Refuses r)) old events end new → IsKept old new
+pub lack_kept : (events : List Happening) (end : End) {old new : Scene} → ForSome (λ r. Where (refusal_number r ≡ 900) (Refuses r)) old events end new → IsKept old new
 unfolding ForSome Where
 lack_kept events end (r, (n, p)) = said_kept (event.Refused r) ends.Refused events end p
 
-pub refusal_kept : (r : Refusal) (events : List Event) (end : End) {old new : Scene} → MayLack (Refuses r) old events end new → IsKept old new
+pub refusal_kept : (r : Refusal) (events : List Happening) (end : End) {old new : Scene} → MayLack (Refuses r) old events end new → IsKept old new
 unfolding Either
 refusal_kept r events end (inl p) = lack_kept events end p
 refusal_kept r events end (inr p) = said_kept (event.Refused r) ends.Refused events end p
 
-pub still_both : {old mid new : Scene} {before events : List Event} {middle end : End} → Still old before middle mid → Still mid events end new → Still old (before ++ events) end new
+pub still_both : {old mid new : Scene} {before events : List Happening} {middle end : End} → Still old before middle mid → Still mid events end new → Still old (before ++ events) end new
 still_both k l = record { kept = kept_both k.kept l.kept; caused = caused_both k.caused l.caused }
 
 pub still_fact : IsFact Still
@@ -135,7 +136,7 @@ count_step (inl e) low = (omega (arith, e), omega (arith, e, low))
 count_step {a = a} {b = b} (inr r) low = let e : b ≡ min (a + 1) 18446744073709551615 = r in (omega (arith, e, low), omega (arith, e))
 
 -- a scene that stays, with events that tell no fault
-stays : {old new : Scene} {events : List Event} {end : End} → new ≡ old → list_any tells_fault events ≡ false → is_inner end ≡ true → Still old events end new
+stays : {old new : Scene} {events : List Happening} {end : End} → new ≡ old → list_any tells_fault events ≡ false → is_inner end ≡ true → Still old events end new
 stays {old = old} {new = new} same none inner = record {
   kept = kept_same same;
   caused = record {
@@ -151,19 +152,24 @@ unfolding Ends
 ends_leave f wanted inner old events end new p =
     f.still old events end new (stays p.same (ap (λ es. list_any tells_fault es) p.told) (ap is_inner p.ended ∙ inner))
 
--- one event, which tells no fault
-one_quiet : (said : Event) → tells_fault said ≡ false → list_any tells_fault (said ∷ []) ≡ false
-one_quiet said q = ap (λ t. t || false) q
+-- all that happened tells no fault
+one_quiet : (happening : Happening) → tells_fault happening ≡ false → list_any tells_fault (happening ∷ []) ≡ false
+one_quiet happening q = ap (λ t. t || false) q
 
 -- the end of an event that is told
 said_inner : {end wanted : End} → is_inner wanted ≡ true → ((end ≡ wanted) ⊎ (end ≡ ends.Cut)) → is_inner end ≡ true
 said_inner inner (inl e) = ap is_inner e ∙ inner
 said_inner inner (inr e) = ap is_inner e
 
-pub says_leave : {R : Process} → IsFact R → (said : Event) (wanted : End) → tells_fault said ≡ false → is_inner wanted ≡ true → Always (EndsSaying said wanted) R
+pub says_leave : {R : Process} → IsFact R → (said : Event) (wanted : End) → tells_fault (tells said) ≡ false → is_inner wanted ≡ true → Always (EndsSaying said wanted) R
 unfolding EndsSaying
 says_leave f said wanted q inner old events end new p =
-    f.still old events end new (stays p.same (ap (λ es. list_any tells_fault es) p.told ∙ one_quiet said q) (said_inner inner p.ended))
+    f.still old events end new (stays p.same (ap (λ es. list_any tells_fault es) p.told ∙ one_quiet (tells said) q) (said_inner inner p.ended))
+
+pub asks_leave : {R : Process} → IsFact R → (asked : Asked) → Always (Asks asked) R
+unfolding Asks
+asks_leave f asked old events end new p =
+    f.still old events end new (stays p.same (ap (λ es. list_any tells_fault es) p.told) (ap is_inner p.ended))
 
 -- what a call of the files says of their count
 refused_counts : (held : Option (List ℕ → Option (List ℕ))) (name : List ℕ) (before after : ℕ) (P : Option (List ℕ) → Type 0) → disks.Refuses held name before after P → Counts before after
@@ -261,7 +267,7 @@ each_leave f leads does [] k = ends_leave f ends.Went refl
 each_leave f leads does (x ∷ xs) k = chain_leave f leads (k x) (each_leave f leads does xs k)
 
 -- want of memory is no fault of the outside
-lack_quiet : (r : Refusal) → refusal_number r ≡ 900 → tells_fault (event.Refused r) ≡ false
+lack_quiet : (r : Refusal) → refusal_number r ≡ 900 → tells_fault (tells (event.Refused r)) ≡ false
 lack_quiet (refusal.FileFault name) n = absurd (let e : 647 ≡ 900 = n in omega (arith, e))
 lack_quiet (refusal.Line line_faults.ReadFault) n = absurd (let e : 801 ≡ 900 = n in omega (arith, e))
 lack_quiet (refusal.Line line_faults.TooLong) n = refl
@@ -275,11 +281,11 @@ pub may_lack_leave : {R : Process} → IsFact R → {P : Process} → Always P R
 may_lack_leave f k = either_leave (lacks_leave f) k
 
 -- a refusal that memory may be lacking for
-pub refuses_leave : {R : Process} → IsFact R → (r : Refusal) → tells_fault (event.Refused r) ≡ false → Always (MayLack (Refuses r)) R
+pub refuses_leave : {R : Process} → IsFact R → (r : Refusal) → tells_fault (tells (event.Refused r)) ≡ false → Always (MayLack (Refuses r)) R
 refuses_leave f r q = may_lack_leave f (says_leave f _ _ q refl)
 
 -- a fault of the files is told behind the call whose count rose
-failed_caused : (limit : ℕ) (name : List ℕ) (events : List Event) {old mid new : Scene} {before : List Event} {middle end : End} → IsCaused old before middle mid → HasRisen old.disk.faults mid.disk.faults → RefusesFile limit name faults.Failed mid events end new → (IsKept mid new) × IsCaused old (before ++ events) end new
+failed_caused : (limit : ℕ) (name : List ℕ) (events : List Happening) {old mid new : Scene} {before : List Happening} {middle end : End} → IsCaused old before middle mid → HasRisen old.disk.faults mid.disk.faults → RefusesFile limit name faults.Failed mid events end new → (IsKept mid new) × IsCaused old (before ++ events) end new
 unfolding Either EndsSaying
 failed_caused limit name events {old = old} {mid = mid} {new = new} {end = end} k risen (inl p) =
     let s : Still mid events end new = lacks_leave still_fact mid events end new p in
@@ -340,15 +346,15 @@ abbrev refused_in : Refusal → Result Given Refusal → Refusal
 refused_in r (Ok given) = r
 refused_in r (Err s) = s
 
-early_quiet : (model : Option Program) (first : Option Phase) (r : Refusal) → option_map (too_early model) first ≡ Some r → tells_fault (event.Refused r) ≡ false
+early_quiet : (model : Option Program) (first : Option Phase) (r : Refusal) → option_map (too_early model) first ≡ Some r → tells_fault (tells (event.Refused r)) ≡ false
 early_quiet model None r e = absurd (none-some r e)
-early_quiet None (Some first) r e = ap (λ s. tells_fault (event.Refused s)) (sym (same_Some _ _ e))
-early_quiet (Some program) (Some first) r e = ap (λ s. tells_fault (event.Refused s)) (sym (same_Some _ _ e))
+early_quiet None (Some first) r e = ap (λ s. tells_fault (tells (event.Refused s))) (sym (same_Some _ _ e))
+early_quiet (Some program) (Some first) r e = ap (λ s. tells_fault (tells (event.Refused s))) (sym (same_Some _ _ e))
 
-row_quiet : (lack : Option Refusal) (options : Result Given OptFault) (r : Refusal) → ((s : Refusal) → lack ≡ Some s → tells_fault (event.Refused s) ≡ false) → Err r ≡ given_unless lack options → tells_fault (event.Refused r) ≡ false
-row_quiet lack (Err fault) r q e = ap (λ x. tells_fault (event.Refused (refused_in r x))) e
+row_quiet : (lack : Option Refusal) (options : Result Given OptFault) (r : Refusal) → ((s : Refusal) → lack ≡ Some s → tells_fault (tells (event.Refused s)) ≡ false) → Err r ≡ given_unless lack options → tells_fault (tells (event.Refused r)) ≡ false
+row_quiet lack (Err fault) r q e = ap (λ x. tells_fault (tells (event.Refused (refused_in r x)))) e
 row_quiet None (Ok read) r q e = absurd (false≢true (ap is_err (sym e)))
-row_quiet (Some s) (Ok read) r q e = ap (λ x. tells_fault (event.Refused (refused_in r x))) e ∙ q s refl
+row_quiet (Some s) (Ok read) r q e = ap (λ x. tells_fault (tells (event.Refused (refused_in r x)))) e ∙ q s refl
 
 pub row_leave : {R : Process} → IsFact R → {N : ℕ} (row : Row N) (words : List (List ℕ)) (P : Given → Process) → ((given : Given) → Always (P given) R) → Always (WithRow row words P) R
 row_leave {R = R} f row words P k =
@@ -359,7 +365,7 @@ row_leave {R = R} f row words P k =
     after s (Err r) (options, o, e) = says_leave f _ _ (row_quiet _ options r (early_quiet s.model (missing (phase_of s.model s.done) row.needs)) e) refl
 
 -- a command by its row is refused and changes nothing, or does what follows on its options
-pub by_row : {N : ℕ} (row : Row N) (words : List (List ℕ)) (P : Given → Process) (old : Scene) (events : List Event) (end : End) (new : Scene) → WithRow row words P old events end new → IsKept old new ⊎ ((given : Given) × Options row.table words (Ok given) × P given old events end new)
+pub by_row : {N : ℕ} (row : Row N) (words : List (List ℕ)) (P : Given → Process) (old : Scene) (events : List Happening) (end : End) (new : Scene) → WithRow row words P old events end new → IsKept old new ⊎ ((given : Given) × Options row.table words (Ok given) × P given old events end new)
 unfolding Either ForSome Knowing Where
 by_row row words P old events end new (inl (r, (n, p))) = inl (said_kept (event.Refused r) ends.Refused events end p)
 by_row row words P old events end new (inr (Ok given, ((options, o, e), p))) = inr (given, subst (λ x. Options row.table words x) (given_by _ options given e) o, p)

@@ -14,10 +14,11 @@ use Rattle.shell_world.specs.declared.event.Event.{Event}
 use Rattle.shell_world.specs.declared.event.Side.{Side}
 use Rattle.shell_world.specs.declared.event.Side.TheVariants as side
 use Rattle.shell_world.specs.declared.state.State.{State}
+use Rattle.shell_world.specs.Happenings.{Asked, Happening, asks, tells, text_at, text_on}
 use Rattle.shell_world.specs.Outsides.{Tells, WritesOn}
-use Rattle.shell_world.specs.Processes.{Becomes, Chain, Each, Either, Ends, EndsSaying, ForSome, IsChanged, IsOver, IsSaid, Knowing, Leads, Process, Stops, Where}
+use Rattle.shell_world.specs.Processes.{Asks, Becomes, Chain, Each, Either, Ends, EndsSaying, ForSome, IsAsked, IsChanged, IsOver, IsSaid, Knowing, Leads, Process, Stops, Where}
 use Rattle.shell_world.specs.Scenes.{Moment, Told, at, goes_along, goes_on, scene_of}
-use Rattle.shell_world.specs.Texts.{side_of, text_if, text_of, text_on}
+use Rattle.shell_world.specs.Texts.{side_of, text_if, text_of}
 use Rattle.shell_world.specs.Written.{AreWritten, Breaks, Performs, Written}
 
 -- nothing was written
@@ -25,15 +26,15 @@ pub none_written : (told : Told) → AreWritten [] told told
 none_written told = record { out = nothing_added told.out.written; err = nothing_added told.err.written; out_quiet = refl; err_quiet = refl }
 
 -- events one after another are written as one list
-are_then : (a b : List Event) (old mid new : Told) → AreWritten a old mid → AreWritten b mid new → AreWritten (a ++ b) old new
+are_then : (a b : List Happening) (old mid new : Told) → AreWritten a old mid → AreWritten b mid new → AreWritten (a ++ b) old new
 are_then a b old mid new p q = record {
-  out = added_both old.out.written mid.out.written new.out.written (text_on side.Output a) (text_on side.Output b) p.out q.out ∙ ap (append_known old.out.written) (sym (flat_map-append (λ e. text_if side.Output (side_of e) (text_of e)) a b));
-  err = added_both old.err.written mid.err.written new.err.written (text_on side.Errors a) (text_on side.Errors b) p.err q.err ∙ ap (append_known old.err.written) (sym (flat_map-append (λ e. text_if side.Errors (side_of e) (text_of e)) a b));
+  out = added_both old.out.written mid.out.written new.out.written (text_on side.Output a) (text_on side.Output b) p.out q.out ∙ ap (append_known old.out.written) (sym (flat_map-append (text_at side.Output) a b));
+  err = added_both old.err.written mid.err.written new.err.written (text_on side.Errors a) (text_on side.Errors b) p.err q.err ∙ ap (append_known old.err.written) (sym (flat_map-append (text_at side.Errors) a b));
   out_quiet = q.out_quiet ∙ p.out_quiet;
   err_quiet = q.err_quiet ∙ p.err_quiet;
 }
 
-pub written_then : (a b : List Event) (e : End) (old mid new : Told) → AreWritten a old mid → Written b e mid new → Written (a ++ b) e old new
+pub written_then : (a b : List Happening) (e : End) (old mid new : Told) → AreWritten a old mid → Written b e mid new → Written (a ++ b) e old new
 written_then a b e old mid new p (inl (n, q)) = inl (n, are_then a b old mid new p q)
 written_then a b e old mid new p (inr (c, k)) = inr (
   c,
@@ -41,23 +42,23 @@ written_then a b e old mid new p (inr (c, k)) = inr (
     before = a ++ k.before;
     last = k.last;
     mid = k.mid;
-    are = ap (λ xs. a ++ xs) k.are ∙ sym (append_assoc a k.before (k.last ∷ []));
+    are = ap (λ xs. a ++ xs) k.are ∙ sym (append_assoc a k.before (tells k.last ∷ []));
     written = are_then a k.before old mid k.mid p k.written;
     breaks = k.breaks;
   },
 )
 
 -- where no sink failed, all was written
-pub uncut : (events : List Event) (e : End) (old new : Told) → e ≢ ends.Cut → Written events e old new → AreWritten events old new
+pub uncut : (events : List Happening) (e : End) (old new : Told) → e ≢ ends.Cut → Written events e old new → AreWritten events old new
 uncut events e old new n (inl (m, w)) = w
 uncut events e old new n (inr (c, k)) = absurd (n c)
 
 -- the texts of one event, on each side
-one_text : (s t : Side) (e : Event) → side_of e ≡ t → text_on s (e ∷ []) ≡ text_if s t (text_of e)
+one_text : (s t : Side) (e : Event) → side_of e ≡ t → text_on s (tells e ∷ []) ≡ text_if s t (text_of e)
 one_text s t e is = append-nil (text_if s (side_of e) (text_of e)) ∙ ap (λ u. text_if s u (text_of e)) is
 
 -- an event was written
-one_written : (t : Side) (e : Event) (old new : Told) → side_of e ≡ t → WritesOn t (text_of e) old (Ok (tt {0})) new → AreWritten (e ∷ []) old new
+one_written : (t : Side) (e : Event) (old new : Told) → side_of e ≡ t → WritesOn t (text_of e) old (Ok (tt {0})) new → AreWritten (tells e ∷ []) old new
 one_written side.Output e old new is (w, others) = record {
   out = w.ok ∙ ap (append_known old.out.written) (sym (one_text side.Output side.Output e is));
   err = ap (λ t. t.err.written) others ∙ nothing_added old.err.written ∙ ap (append_known old.err.written) (sym (one_text side.Errors side.Output e is));
@@ -86,9 +87,9 @@ pub said : (e : Event) (wanted : End) (state : State) (old new : Told) → wante
 unfolding EndsSaying
 said e wanted state old new n t =
     let k = write_keeps (side_of e) (text_of e) state old new _ t.writes in
-    let is : IsSaid e wanted (scene_of (at state old)) (e ∷ []) wanted (scene_of (at state new)) = record { told = refl; ended = inl refl; same = k.0 } in
+    let is : IsSaid e wanted (scene_of (at state old)) (tells e ∷ []) wanted (scene_of (at state new)) = record { told = refl; ended = inl refl; same = k.0 } in
     record {
-      events = e ∷ [];
+      events = tells e ∷ [];
       happens = is;
       written = inl (n, one_written (side_of e) e old new refl t.writes);
       same = k.1;
@@ -99,9 +100,9 @@ pub said_not : (e : Event) (wanted : End) (state : State) (old new : Told) (f : 
 unfolding EndsSaying
 said_not e wanted state old new f t =
     let k = write_keeps (side_of e) (text_of e) state old new _ t.writes in
-    let is : IsSaid e wanted (scene_of (at state old)) (e ∷ []) ends.Cut (scene_of (at state new)) = record { told = refl; ended = inr refl; same = k.0 } in
+    let is : IsSaid e wanted (scene_of (at state old)) (tells e ∷ []) ends.Cut (scene_of (at state new)) = record { told = refl; ended = inr refl; same = k.0 } in
     record {
-      events = e ∷ [];
+      events = tells e ∷ [];
       happens = is;
       written = inr (refl, record { before = []; last = e; mid = old; are = refl; written = none_written old; breaks = one_broken (side_of e) e old new f t.writes });
       same = k.1;
@@ -128,8 +129,17 @@ became f old new told e =
     let is : IsChanged f (scene_of (at old told)) [] ends.Went (scene_of (at new told)) = record { told = refl; ended = refl; changed = ap (λ s. scene_of (at s told)) e } in
     record { events = []; happens = is; written = inl (went_on, none_written told); same = refl }
 
+-- a question was asked, and nothing written
+pub asked : (a : Asked) (now : Moment) → Performs (Asks a) now ends.Went now
+unfolding Asks
+asked a now =
+    let is : IsAsked a (scene_of now) (asks a ∷ []) ends.Went (scene_of now) = record { told = refl; ended = refl; same = refl } in
+    let w = none_written now.told in
+    let written : AreWritten (asks a ∷ []) now.told now.told = record { out = w.out; err = w.err; out_quiet = refl; err_quiet = refl } in
+    record { events = asks a ∷ []; happens = is; written = inl (went_on, written); same = refl }
+
 -- a process whose performance is one of another
-pub also : {P Q : Process} {old new : Moment} {e : End} → ((events : List Event) → P (scene_of old) events e (scene_of new) → Q (scene_of old) events e (scene_of new)) → Performs P old e new → Performs Q old e new
+pub also : {P Q : Process} {old new : Moment} {e : End} → ((events : List Happening) → P (scene_of old) events e (scene_of new) → Q (scene_of old) events e (scene_of new)) → Performs P old e new → Performs Q old e new
 also f p = record { events = p.events; happens = f p.events p.happens; written = p.written; same = p.same }
 
 pub left : {P : Process} (Q : Process) {old new : Moment} {e : End} → Performs P old e new → Performs (Either P Q) old e new

@@ -5,9 +5,9 @@ use Rattle.outside.specs.declared.source.LineFault.TheVariants.{ReadFault}
 use Rattle.outside.specs.Disk.{BreaksOff}
 use Rattle.shell_world.specs.declared.end.End.{End}
 use Rattle.shell_world.specs.declared.end.End.TheVariants as ends
-use Rattle.shell_world.specs.declared.event.Event.{Event}
 use Rattle.shell_world.specs.declared.event.Event.TheVariants as event
 use Rattle.shell_world.specs.declared.refusal.Refusal.TheVariants as refusal
+use Rattle.shell_world.specs.Happenings.{Happening, tells}
 use Rattle.shell_world.specs.Processes.{Process}
 use Rattle.shell_world.specs.Scenes.{Scene}
 
@@ -27,19 +27,19 @@ pub record IsKeptBut (name bytes : List ℕ) (old new : Scene) : Type 0 where
 -- all is as before where a process ends refused
 abbrev pub KeepsRefused : Process → Type 0
 KeepsRefused P =
-    (old : Scene) (events : List Event) (end : End) (new : Scene) → end ≡ ends.Refused
+    (old : Scene) (events : List Happening) (end : End) (new : Scene) → end ≡ ends.Refused
     → P old events end new → IsKept old new
 
 -- all but a file is
 abbrev pub KeepsRefusedBut : List ℕ → List ℕ → Process → Type 0
 KeepsRefusedBut name bytes P =
-    (old : Scene) (events : List Event) (end : End) (new : Scene) → end ≡ ends.Refused
+    (old : Scene) (events : List Happening) (end : End) (new : Scene) → end ≡ ends.Refused
     → P old events end new → IsKeptBut name bytes old new
 
 -- a fault of the files or of the input is told
-abbrev pub tells_fault : Event → Bool
-tells_fault (event.Refused (refusal.FileFault name)) = true
-tells_fault (event.Refused (refusal.Line ReadFault)) = true
+abbrev pub tells_fault : Happening → Bool
+tells_fault (tells (event.Refused (refusal.FileFault name))) = true
+tells_fault (tells (event.Refused (refusal.Line ReadFault))) = true
 tells_fault other = false
 
 -- a count can rise no further
@@ -53,7 +53,7 @@ is_inner ends.InputFailed = false
 is_inner other = true
 
 -- a command reads no input, and a fault is told only where the count of the files rises
-pub record IsCaused (old : Scene) (events : List Event) (end : End) (new : Scene) : Type 0 where
+pub record IsCaused (old : Scene) (events : List Happening) (end : End) (new : Scene) : Type 0 where
   pub input : new.input ≡ old.input
   pub inner : is_inner end ≡ true
   pub rises :
@@ -66,5 +66,5 @@ pub record IsCaused (old : Scene) (events : List Event) (end : End) (new : Scene
 -- each performance of a process has the fact
 abbrev pub Always : Process → Process → Type 0
 Always P R =
-    (old : Scene) (events : List Event) (end : End) (new : Scene)
+    (old : Scene) (events : List Happening) (end : End) (new : Scene)
     → P old events end new → R old events end new

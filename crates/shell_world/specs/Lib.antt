@@ -1,5 +1,6 @@
 pub mod Scenes
 pub mod Texts
+pub mod Happenings
 pub mod Processes
 pub mod Written
 pub mod Outsides

@@ -8,16 +8,17 @@ use Rattle.shell_world.specs.declared.event.Event.TheVariants as event
 use Rattle.shell_world.specs.declared.refusal.Refusal.{Refusal}
 use Rattle.shell_world.specs.declared.refusal.Refusal.TheVariants as refusal
 use Rattle.shell_world.specs.declared.state.State.{State}
+use Rattle.shell_world.specs.Happenings.{Asked, Happening, asks, tells}
 use Rattle.shell_world.specs.Scenes.{Scene, goes_along}
 use Rattle.shell_world.specs.Texts.{refusal_number}
 
 -- from a scene, with these events and this end, to a scene
 abbrev pub Process : Type 1
-Process = Scene → List Event → End → Scene → Type 0
+Process = Scene → List Happening → End → Scene → Type 0
 
 -- nothing is told and nothing changes
 pub record IsOver (wanted : End)
-    (old : Scene) (events : List Event) (end : End) (new : Scene) : Type 0 where
+    (old : Scene) (events : List Happening) (end : End) (new : Scene) : Type 0 where
   pub told : events ≡ []
   pub ended : end ≡ wanted
   pub same : new ≡ old
@@ -27,17 +28,27 @@ Ends wanted old events end new = IsOver wanted old events end new
 
 -- one event is told, and the end is the one that is wanted, or the sink failed at this event
 pub record IsSaid (said : Event) (wanted : End)
-    (old : Scene) (events : List Event) (end : End) (new : Scene) : Type 0 where
-  pub told : events ≡ said ∷ []
+    (old : Scene) (events : List Happening) (end : End) (new : Scene) : Type 0 where
+  pub told : events ≡ tells said ∷ []
   pub ended : (end ≡ wanted) ⊎ (end ≡ ends.Cut)
   pub same : new ≡ old
 
 unfoldable pub EndsSaying : Event → End → Process
 EndsSaying said wanted old events end new = IsSaid said wanted old events end new
 
+-- a question is asked; what its answer changes is said beside it
+pub record IsAsked (asked : Asked)
+    (old : Scene) (events : List Happening) (end : End) (new : Scene) : Type 0 where
+  pub told : events ≡ asks asked ∷ []
+  pub ended : end ≡ ends.Went
+  pub same : new ≡ old
+
+unfoldable pub Asks : Asked → Process
+Asks asked old events end new = IsAsked asked old events end new
+
 -- the state becomes f of it
 pub record IsChanged (f : State → State)
-    (old : Scene) (events : List Event) (end : End) (new : Scene) : Type 0 where
+    (old : Scene) (events : List Happening) (end : End) (new : Scene) : Type 0 where
   pub told : events ≡ []
   pub ended : end ≡ ends.Went
   pub changed : new ≡ record old { state = f old.state }
@@ -63,17 +74,17 @@ Knowing P old events end new = P old.state old events end new
 
 -- the first of two, whose end does not lead on
 pub record Stops (leads : State → End → Bool) (P : Process)
-    (old : Scene) (events : List Event) (end : End) (new : Scene) : Type 0 where
+    (old : Scene) (events : List Happening) (end : End) (new : Scene) : Type 0 where
   pub first : P old events end new
   pub stops : leads new.state end ≡ false
 
 -- the first of two, and then the second
 pub record Leads (leads : State → End → Bool) (P Q : Process)
-    (old : Scene) (events : List Event) (end : End) (new : Scene) : Type 0 where
+    (old : Scene) (events : List Happening) (end : End) (new : Scene) : Type 0 where
   pub mid : Scene
   pub middle : End
-  pub before : List Event
-  pub behind : List Event
+  pub before : List Happening
+  pub behind : List Happening
   pub first : P old before middle mid
   pub leads_on : leads mid.state middle ≡ true
   pub second : Q mid behind end new

@@ -8,15 +8,15 @@ use Rattle.outside.specs.Disk.{ReadsFile, WritesFile}
 use Rattle.outside.specs.Lines.{ReadsLine}
 use Rattle.shell_world.specs.declared.end.End.{End}
 use Rattle.shell_world.specs.declared.end.End.TheVariants as ends
-use Rattle.shell_world.specs.declared.event.Event.{Event}
 use Rattle.shell_world.specs.declared.refusal.Refusal.{Refusal}
 use Rattle.shell_world.specs.declared.refusal.Refusal.TheVariants as refusal
+use Rattle.shell_world.specs.Happenings.{Happening}
 use Rattle.shell_world.specs.Processes.{Ends, ForSome, MayLack, Process, Refuses, Then}
 use Rattle.shell_world.specs.Scenes.{Scene}
 
 -- a line of at most so many bytes is read, with this answer
 pub record IsLineRead (limit : ℕ) (answer : Result Line LineFault)
-    (old : Scene) (events : List Event) (end : End) (new : Scene) : Type 0 where
+    (old : Scene) (events : List Happening) (end : End) (new : Scene) : Type 0 where
   pub told : events ≡ []
   pub ended : end ≡ ends.Went
   pub reads : ReadsLine limit old.input answer new.input
@@ -27,7 +27,7 @@ TakesLine limit answer old events end new = IsLineRead limit answer old events e
 
 -- a file of at most so many bytes is read, with this answer
 pub record IsFileRead (limit : ℕ) (name : List ℕ) (answer : Result (List ℕ) FileFault)
-    (old : Scene) (events : List Event) (end : End) (new : Scene) : Type 0 where
+    (old : Scene) (events : List Happening) (end : End) (new : Scene) : Type 0 where
   pub told : events ≡ []
   pub ended : end ≡ ends.Went
   pub reads : ReadsFile limit name old.disk answer new.disk
@@ -39,7 +39,7 @@ ReadsWhole limit name answer old events end new = IsFileRead limit name answer o
 
 -- a file is written, with this answer
 pub record IsFileWritten (name bytes : List ℕ) (answer : Result (Unit {0}) FileFault)
-    (old : Scene) (events : List Event) (end : End) (new : Scene) : Type 0 where
+    (old : Scene) (events : List Happening) (end : End) (new : Scene) : Type 0 where
   pub told : events ≡ []
   pub ended : end ≡ ends.Went
   pub writes : WritesFile name bytes old.disk answer new.disk

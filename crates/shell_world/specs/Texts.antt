@@ -99,7 +99,3 @@ text_if Output Output text = text
 text_if Output Errors text = []
 text_if Errors Output text = []
 text_if Errors Errors text = text
-
--- what a side gains by events
-abbrev pub text_on : Side → List Event → List ℕ
-text_on side events = flat_map (λ e. text_if side (side_of e) (text_of e)) events

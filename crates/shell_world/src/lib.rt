@@ -2,10 +2,11 @@
 //! What a session is made of: what it keeps, what it sees of the outside, what happens in it, and
 //! what is written of that.
 //!
-//! Each command of the shell is a process: a relation between the scene before, the events that it
-//! tells, its end and the scene after (`specs/Processes.antt`). `Does` says that code performed a
-//! process, and that each event was written as it came (`specs/Written.antt`). A row says what a
-//! command takes and needs, and `read_row` is the one place where that is looked at
+//! Each command of the shell is a process: a relation between the scene before, what happens, its
+//! end and the scene after (`specs/Processes.antt`). What happens is events that are told, and
+//! questions that a solver is asked, which have no text (`specs/Happenings.antt`). `Does` says that
+//! code performed a process, and that each event was written as it came (`specs/Written.antt`). A
+//! row says what a command takes and needs, and `read_row` is the one place where that is looked at
 //! (`specs/Rows.antt`). The other calls here are the steps that commands are made of, each with a
 //! clause `Does`.
 
