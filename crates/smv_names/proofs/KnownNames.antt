@@ -58,7 +58,7 @@ module _ (program : List Body) (r : Resolver) (ready : IsReady program r) (n : �
       (resolved r n names) (resolve program i.up names)
       (resolves program (length (instances program)) r ready n i (slice_get_within (instances program) n i at) at names)
 
-  known_same : is_known_by r n ≡ is_known_in program i
+  pub known_same : is_known_by r n ≡ is_known_in program i
   known_same =
       fun_ext (λ names. ap (λ b. b || is_parameter_by r n names) (something_same names) ∙ ap (λ b. not (is_nothing (resolve program i.up names)) || b) (alone_same names))
 

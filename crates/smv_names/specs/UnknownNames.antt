@@ -75,6 +75,10 @@ is_known_by r n names = is_some (resolved r n names) || is_parameter_by r n name
 abbrev pub is_assignable_by : Resolver → ℕ → List ℕ → Bool
 is_assignable_by r n m = not (is_some (parameter_at r.scopes n m)) && is_variable (declared_at r.scopes n m)
 
+-- the unknown names of an item by the tables
+abbrev pub unknown_by : Resolver → ℕ → Part → List TypeFault
+unknown_by r n = unknown_in_part (is_known_by r n) (is_assignable_by r n)
+
 abbrev pub parts_at : List Body → Scopes → ℕ → List Part
 parts_at program s n =
     list_of (λ (b : Body). b.parts) (option_and_then (slice_get program) (slice_get s.module_numbers.items n))

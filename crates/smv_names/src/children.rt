@@ -79,7 +79,8 @@ pub(crate) fn children_of(
     scopes: &Scopes,
     instances: &Instances,
 ) -> Result<Children, AllocError>
-    ensures { IfOk result (λ m. AreEntered scopes.now instances.now (length instances.now) m.entries) }
+    ensures { IfOk result (λ m.
+        AreEntered scopes.now instances.now (length instances.now) m.entries) }
 {
     let mut children = IndexMap::new(alloc);
     for number in 0..instances.instance_count() {

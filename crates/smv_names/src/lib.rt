@@ -29,4 +29,4 @@ pub use symbols::{Symbols, symbols_of};
 pub use table::{Table, item_table};
 pub use target::Target;
 pub use unknown::{Known, unknown_in, unknown_in_formula};
-pub use unknown_names::first_unknown_name;
+pub use unknown_names::{first_unknown_name, unknown_in_expression, unknown_in_property};

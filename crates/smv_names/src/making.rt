@@ -34,7 +34,8 @@ impl Resolver {
         number: usize,
         actuals: &[Expr],
     ) -> Result<Vec<Option<Target>>, AllocError>
-        ensures { IfOk result (λ v. AreGiven self.now around number (map expr_tree actuals.now) v.items) }
+        ensures { IfOk result (λ v.
+            AreGiven self.now around number (map expr_tree actuals.now) v.items) }
     {
         let mut targets = Vec::new(alloc);
         for (parameter, actual) in actuals.iter().enumerate() {

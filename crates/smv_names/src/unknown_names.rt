@@ -1,13 +1,16 @@
 //! The first unknown name of a program.
-ghost use Rattle.std.specs.Prelude.{◌≡◌, map, flat_map, length, IfOk};
-ghost use Rattle.smv_tree.specs.Models.{bodies, part_of};
+ghost use Rattle.std.specs.Prelude.{◌≡◌, ℕ, List, Some, map, flat_map, length, slice_get, IfOk};
+ghost use Rattle.smv_tree.specs.Trees.{expr_tree};
+ghost use Rattle.smv_tree.specs.Models.{Body, bodies, part_of, formula_claim};
+ghost use Rattle.smv_meaning.specs.Instances.{Instance, instances};
 ghost use Rattle.type_fault.specs.First.{earliest};
-ghost use Rattle.smv_names.specs.UnknownNames.{is_parameter_by, is_known_by, is_assignable_by, unassignable, unknown_in_part, parts_at, unknown_names};
+ghost use Rattle.smv_names.specs.UnknownNames.{is_parameter_by, is_known_by, is_assignable_by, unassignable, unknown_by, parts_at, is_known_in, unknown_names};
+ghost use Rattle.smv_names.specs.Unknown.{unknown_in, unknown_in_claim};
 ghost use Rattle.smv_names.specs.Ready.{IsReady};
 
 use crate::unknown::{unknown_in, unknown_in_all, unknown_in_formula};
 use crate::{Declared, Known, Resolver};
-use smv_tree::{Item, Name, Path, Program, TypeSyntax};
+use smv_tree::{Expr, Formula, Item, Name, Path, Program, TypeSyntax};
 use std::alloc::{AllocError, Global};
 use type_fault::{TypeFault, earlier};
 
@@ -89,8 +92,7 @@ fn unknown_in_item(
     number: usize,
     item: &Item,
 ) -> Result<Option<TypeFault>, AllocError>
-    ensures { IfOk result (λ f. f ≡ earliest (unknown_in_part
-        (is_known_by resolver.now number) (is_assignable_by resolver.now number) (part_of item.now))) }
+    ensures { IfOk result (λ f. f ≡ earliest (unknown_by resolver.now number (part_of item.now))) }
 {
     let known = InstanceNames { resolver, number };
     match item {
@@ -116,8 +118,8 @@ fn unknown_in_items(
     number: usize,
     items: &[Item],
 ) -> Result<Option<TypeFault>, AllocError>
-    ensures { IfOk result (λ f. f ≡ earliest (flat_map (unknown_in_part
-        (is_known_by resolver.now number) (is_assignable_by resolver.now number)) (map part_of items.now))) }
+    ensures { IfOk result (λ f.
+        f ≡ earliest (flat_map (unknown_by resolver.now number) (map part_of items.now))) }
 {
     let mut first = None;
     for item in items {
@@ -139,8 +141,8 @@ fn items_at<'a>(p: &'a Program, resolver: &Resolver, number: usize) -> &'a [Item
     }
 }
 
-/// The first unknown name of a program in the order of its instances: a path of names that stands for
-/// nothing, or an assigned name that is no variable of the module; or that there is none.
+/// The first unknown name of a program in the order of its instances: a path of names that stands
+/// for nothing, or an assigned name that is no variable of the module; or that there is none.
 ///
 /// # Errors
 ///
@@ -158,5 +160,43 @@ pub fn first_unknown_name(
         let items = items_at(p, resolver, number);
         first = earlier(first, unknown_in_items(alloc, resolver, number, items)?);
     }
+    Ok(first)
+}
+
+/// The first unknown name of an expression that stands in the instance of a number.
+///
+/// # Errors
+///
+/// `AllocError` where memory was refused.
+pub fn unknown_in_expression(
+    alloc: Global,
+    resolver: &Resolver,
+    number: usize,
+    e: &Expr,
+) -> Result<Option<TypeFault>, AllocError>
+    ensures { IfOk result (λ f. (program : List Body) (i : Instance) → IsReady program resolver.now →
+        slice_get (instances program) number ≡ Some i →
+        f ≡ earliest (unknown_in (is_known_in program i) (expr_tree e.now))) }
+{
+    let first = unknown_in(alloc, &InstanceNames { resolver, number }, e)?;
+    Ok(first)
+}
+
+/// The first unknown name of a formula whose expressions stand in the instance of a number.
+///
+/// # Errors
+///
+/// `AllocError` where memory was refused.
+pub fn unknown_in_property(
+    alloc: Global,
+    resolver: &Resolver,
+    number: usize,
+    formula: &Formula,
+) -> Result<Option<TypeFault>, AllocError>
+    ensures { IfOk result (λ f. (program : List Body) (i : Instance) → IsReady program resolver.now →
+        slice_get (instances program) number ≡ Some i →
+        f ≡ earliest (unknown_in_claim (is_known_in program i) (formula_claim formula.now))) }
+{
+    let first = unknown_in_formula(alloc, &InstanceNames { resolver, number }, formula)?;
     Ok(first)
 }
