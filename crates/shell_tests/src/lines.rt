@@ -2,7 +2,7 @@
 ghost use Rattle.std.specs.Prelude.{◌≡◌, ◌+◌, ◌<◌, ◌≤◌};
 
 use crate::said::text;
-use outside::{MemFiles, MemSink, SoundFiles, SoundSource, Words};
+use outside::{MemFiles, MemSink, SoundFiles, SoundSource, Text, Words};
 use shell::{Next, Session, run_sound};
 use std::alloc::{AllocError, Global};
 use std::marker::Brand;
@@ -50,27 +50,38 @@ fn three_lines<L: Ledger>(
     Ok([went, refused, quit])
 }
 
+/// The same with steps that nobody reads.
+fn stepped(alloc: Global, out: &mut MemSink) -> Result<[Next; 3], AllocError> {
+    three_lines::<Brand>(alloc, out, Blank::new(1))
+}
+
 #[test]
 fn steps_line_by_line(rt: HostRuntime) -> Result<(), AllocError> {
     let alloc = rt.alloc();
     let mut out = MemSink::new(alloc, 100, &[])?;
-    let next = three_lines::<Brand>(alloc, &mut out, Blank::new(1))?;
+    let next = stepped(alloc, &mut out)?;
     assert!(rt; next == [Next::Go, Next::Stop(1), Next::Stop(0)]);
     assert!(rt; out.bytes() == b"a\n".as_slice());
     Ok(())
 }
 
 /// The status of a session over objects that never fail, on this input.
-fn sound_status<L: Ledger>(alloc: Global, input: &str, blank: Blank) -> Result<u8, AllocError>
+fn sound_status<L: Ledger>(alloc: Global, input: &Text, blank: Blank) -> Result<u8, AllocError>
     requires name { blank.name ≡ L.name }
     requires parts { blank.parts ≡ L.parts }
     requires some { 0 < blank.parts }
 {
     let mut steps: Steps<L> = Steps::new(blank);
-    let mut input = SoundSource::new(alloc, input.as_bytes())?;
+    let mut input = SoundSource::new(alloc, input.as_slice())?;
     let mut files = SoundFiles::new(alloc)?;
     let words = Words::new(alloc);
     Ok(run_sound(alloc, &words, &mut input, &mut files, &mut steps))
+}
+
+/// The same with steps that nobody reads.
+fn status_on(alloc: Global, input: &str) -> Result<u8, AllocError> {
+    let input = text(alloc, input)?;
+    sound_status::<Brand>(alloc, &input, Blank::new(1))
 }
 
 #[test]
@@ -82,7 +93,7 @@ fn ends_well_over_objects_that_never_fail(rt: HostRuntime) -> Result<(), AllocEr
         ("set on_failure_script_quits 1\nnope\nquit", 1),
     ];
     for (input, want) in rows {
-        let status = sound_status::<Brand>(alloc, input, Blank::new(1))?;
+        let status = status_on(alloc, input)?;
         assert!(rt; status == want, "{input}");
     }
     Ok(())
