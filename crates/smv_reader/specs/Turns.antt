@@ -1,10 +1,10 @@
 -- One more of what comes again.
-use Rattle.std.specs.Prelude.{ℕ, List, [], ◌∷◌, Option, Some, None, Result, Ok, Err, length}
+use Rattle.std.specs.Prelude.{ℕ, List, [], ◌∷◌, Option, Some, None, Result, Ok}
 use denote.Ref.{Bor}
 use Rattle.smv_token.specs.declared.token.Token.{Token}
-use Rattle.smv_reading.specs.Reading.{Stop, wrong, ◌>>=◌}
+use Rattle.smv_reading.specs.Reading.{Stop, ◌>>=◌}
 use Rattle.smv_rules.specs.Keys.{Key, Payload, sees}
-use Rattle.smv_rules.specs.Rules.{Rule, gives, too_deep, must, may, part, then, again}
+use Rattle.smv_rules.specs.Rules.{Rule, again}
 use Rattle.smv_rules.specs.Running.{if_seen, run}
 use Rattle.smv_rules.specs.Sorts.{Gift, Sort}
 
@@ -16,7 +16,7 @@ Turn X = Result (X × Option (List Token)) Stop
 unfoldable pub turn : ℕ → {s : Sort} → Rule s → List Token → Turn (Gift s)
 turn n (again s k f a) [] = Ok (a, None)
 turn n (again s k f a) (t ∷ ts) = if_seen (sees k t ts) (λ p. run n (f a p) ts >>= (λ b. Ok (b.0, Some b.1))) (Ok (a, None))
-turn n r ts = Err (wrong (length ts))
+turn n r ts = run n r ts >>= (λ b. Ok (b.0, None))
 
 abbrev pub seen_rest : Option (Bor (List Token)) → Option (List Token)
 seen_rest None = None
