@@ -1,4 +1,4 @@
-ghost use Rattle.std.specs.Prelude.{◌≡◌, ◌∷◌, ◌++◌, [], map};
+ghost use Rattle.std.specs.Prelude.{map};
 ghost use Rattle.smv_tree.specs.Models.{formal_of};
 ghost use Rattle.smv_reading.specs.Halts.{Reads};
 ghost use Rattle.smv_rules.specs.Programs.{formals, more_formals, some_names};
@@ -46,10 +46,9 @@ impl Reader {
     fn some_formals(self, tokens: &[Token]) -> Result<(Params, &[Token]), Halt>
         ensures { Reads (λ x. (map formal_of x.0.items, x.1.now)) result (run self.room some_names tokens.now) }
     {
-        let mut params = Vec::new(self.alloc);
         let (name, place, rest) = self.name(tokens)?;
-        params.push(Param { name, place })?;
-        let (params, rest) = self.more_formals(params, rest)?;
+        let first = vec![in self.alloc; Param { name, place }]?;
+        let (params, rest) = self.more_formals(first, rest)?;
         let (_, rest) = self.expect(Mark::CloseRound, rest)?;
         Ok((params, rest))
     }

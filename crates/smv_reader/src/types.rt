@@ -77,10 +77,9 @@ impl Reader {
     fn enumeration(self, place: Place, tokens: &[Token]) -> Result<(TypeSyntax, &[Token]), Halt>
         ensures { Reads (λ x. (shape_of x.0, x.1.now)) result (run self.room (enumeration place) tokens.now) }
     {
-        let mut elements = Vec::new(self.alloc);
         let (first, rest) = self.element(tokens)?;
-        elements.push(first)?;
-        let (elements, rest) = self.more_elements(elements, rest)?;
+        let first = vec![in self.alloc; first]?;
+        let (elements, rest) = self.more_elements(first, rest)?;
         let (_, rest) = self.expect(Mark::CloseCurly, rest)?;
         let ty = Ty::Enum(Values::from_vec(elements));
         Ok((TypeSyntax::Plain(ty, place), rest))
