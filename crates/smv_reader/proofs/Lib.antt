@@ -1,0 +1,4 @@
+pub mod Loops
+pub mod Climbing
+pub mod Turning
+pub mod Levels

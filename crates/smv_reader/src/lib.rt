@@ -1,0 +1,14 @@
+#![tactic(auto)]
+//! The reading of expressions, formulas and programs from tokens, by the rules of the grammar: each
+//! function reads what one rule says.
+
+mod expression;
+mod formals;
+mod opening;
+mod operators;
+mod parsed;
+mod reader;
+mod sections;
+mod shapes;
+mod simple;
+mod types;
