@@ -43,11 +43,7 @@ loop_halts (halts.Wrong i) n s k f a ts e = turned n s k f a ts ∙ ap (λ (o : 
 loop_halts (halts.Deep i) n s k f a ts e = turned n s k f a ts ∙ ap (λ (o : Turn (Gift s)). o >>= onward n s k f ts) e
 loop_halts (halts.NoMemory i) n s k f a ts e = tt
 
--- what was read, where no more comes again
-abbrev last : {X : Type 0} → Got X → Turn X
-last out = out >>= (λ b. Ok (b.0, None))
-
-halts_back : {X : Type 0} (h : Halt) (out : Got X) → Halts h (last out) → Halts h out
+halts_back : {X : Type 0} (h : Halt) (out : Got X) → Halts {Y = X × Option (List Token)} h (out >>= (λ b. Ok (b.0, None))) → Halts h out
 halts_back (halts.Wrong i) (Ok b) e = absurd (cc)
 halts_back (halts.Wrong i) (Err j) e = let g : j ≡ wrong i = cc in ap Err g
 halts_back (halts.Deep i) (Ok b) e = absurd (cc)
@@ -56,8 +52,8 @@ halts_back (halts.NoMemory i) out e = tt
 
 turn_halts : (h : Halt) (n : ℕ) {s : Sort} (r : Rule s) (ts : List Token) → Halts h (turn n r ts) → Halts h (run n r ts)
 unfolding turn
-turn_halts h n (again s k f a) ts e = loop_halts h n s k f a ts e
-turn_halts h n r ts e = halts_back h (run n r ts) e
+turn_halts h n _ (again s k f a) ts e = loop_halts h n s k f a ts e
+turn_halts h n s r ts e = halts_back h (run n r ts) e
 
 -- where a turn halts, all that comes again does
 pub loop_fails : (h : Halt) (n : ℕ) (s : Sort) (r : Rule s) (ts : List Token) (out : Got (Gift s)) → Halts h (turn n r ts) → run n r ts ≡ out → Halts h out
