@@ -50,14 +50,14 @@ halts_back (halts.Deep i) (Ok b) e = absurd (cc)
 halts_back (halts.Deep i) (Err j) e = let g : j ≡ deep i = cc in ap Err g
 halts_back (halts.NoMemory i) out e = tt
 
-turn_halts : (h : Halt) (n : ℕ) {s : Sort} (r : Rule s) (ts : List Token) → Halts h (turn n r ts) → Halts h (run n r ts)
+turn_halts : (h : Halt) (n : ℕ) (s : Sort) (r : Rule s) (ts : List Token) → Halts h (turn n r ts) → Halts h (run n r ts)
 unfolding turn
 turn_halts h n _ (again s k f a) ts e = loop_halts h n s k f a ts e
 turn_halts h n s r ts e = halts_back h (run n r ts) e
 
 -- where a turn halts, all that comes again does
 pub loop_fails : (h : Halt) (n : ℕ) (s : Sort) (r : Rule s) (ts : List Token) (out : Got (Gift s)) → Halts h (turn n r ts) → run n r ts ≡ out → Halts h out
-loop_fails h n s r ts out e is = let P : Got (Gift s) → Type 0 = λ o. Halts h o in subst P is (turn_halts h n r ts e)
+loop_fails h n s r ts out e is = let P : Got (Gift s) → Type 0 = λ o. Halts h o in subst P is (turn_halts h n s r ts e)
 
 -- a turn takes a token
 abbrev Shorter : {X : Type 0} → ℕ → Turn X → Type 0

@@ -1,4 +1,4 @@
-ghost use Rattle.std.specs.Prelude.{map};
+ghost use Rattle.std.specs.Prelude.{◌∷◌, [], map};
 ghost use Rattle.smv_tree.specs.Models.{formal_of};
 ghost use Rattle.smv_reading.specs.Halts.{Reads};
 ghost use Rattle.smv_rules.specs.Programs.{formals, more_formals, some_names};
@@ -29,12 +29,13 @@ impl Reader {
         Ok(Some(rest))
     }
 
-    /// Further formal parameters, each behind a comma.
+    /// The formal parameters behind the first, each behind a comma.
     #[tactic(auto, using(crate::proofs::Loops::loop_stops, crate::proofs::Loops::loop_goes, crate::proofs::Loops::loop_less))]
-    fn more_formals(self, before: Params, tokens: &[Token]) -> Result<(Params, &[Token]), Halt>
-        ensures { Reads (λ x. (map formal_of x.0.items, x.1.now)) result (run self.room (more_formals (map formal_of before.items)) tokens.now) }
+    fn more_formals(self, first: Param, tokens: &[Token]) -> Result<(Params, &[Token]), Halt>
+        ensures { Reads (λ x. (map formal_of x.0.items, x.1.now)) result (run self.room (more_formals (formal_of first ∷ [])) tokens.now) }
     {
-        let (mut params, mut rest) = (before, tokens);
+        let mut params = vec![in self.alloc; first]?;
+        let mut rest = tokens;
         'formals: while let Some(behind) = self.next_formal(&mut params, rest)? {
             rest = behind;
         }
@@ -47,8 +48,7 @@ impl Reader {
         ensures { Reads (λ x. (map formal_of x.0.items, x.1.now)) result (run self.room some_names tokens.now) }
     {
         let (name, place, rest) = self.name(tokens)?;
-        let first = vec![in self.alloc; Param { name, place }]?;
-        let (params, rest) = self.more_formals(first, rest)?;
+        let (params, rest) = self.more_formals(Param { name, place }, rest)?;
         let (_, rest) = self.expect(Mark::CloseRound, rest)?;
         Ok((params, rest))
     }

@@ -56,16 +56,17 @@ impl Reader {
         Ok(Some(rest))
     }
 
-    /// Further elements, each behind a comma.
+    /// The elements behind the first, each behind a comma.
     #[tactic(auto, using(crate::proofs::Loops::loop_stops, crate::proofs::Loops::loop_goes, crate::proofs::Loops::loop_less))]
     fn more_elements(
         self,
-        before: Vec<Value>,
+        first: Value,
         tokens: &[Token],
     ) -> Result<(Vec<Value>, &[Token]), Halt>
-        ensures { Reads (λ x. (x.0.items, x.1.now)) result (run self.room (more_elems before.items) tokens.now) }
+        ensures { Reads (λ x. (x.0.items, x.1.now)) result (run self.room (more_elems (first ∷ [])) tokens.now) }
     {
-        let (mut elements, mut rest) = (before, tokens);
+        let mut elements = vec![in self.alloc; first]?;
+        let mut rest = tokens;
         'elements: while let Some(behind) = self.next_element(&mut elements, rest)? {
             rest = behind;
         }
@@ -78,7 +79,6 @@ impl Reader {
         ensures { Reads (λ x. (shape_of x.0, x.1.now)) result (run self.room (enumeration place) tokens.now) }
     {
         let (first, rest) = self.element(tokens)?;
-        let first = vec![in self.alloc; first]?;
         let (elements, rest) = self.more_elements(first, rest)?;
         let (_, rest) = self.expect(Mark::CloseCurly, rest)?;
         let ty = Ty::Enum(Values::from_vec(elements));

@@ -6,5 +6,5 @@ use Rattle.smv_reader.proofs.reader.Reader.more_elements.Goals as goal
 
 pub returns-in_err-behind : goal.returns-in_err-behind
 returns-in_err-behind c =
-    let p = err_from_is_err_and c.from_residual.result c.from_residual.ensures.1 in
+    let p = err_from_is_err_and c.from_residual-in_err-behind.result c.from_residual-in_err-behind.ensures.1 in
     rw (p.1, p.2) (loop_fails _ _ some_values (more_elems _) _ _ c.in_err-behind.ensures c.elements.invariant)
