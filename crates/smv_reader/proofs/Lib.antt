@@ -2,3 +2,5 @@ pub mod Loops
 pub mod Climbing
 pub mod Turning
 pub mod Levels
+pub mod FormulaLevels
+pub mod Flags

@@ -2,3 +2,4 @@ pub mod Turns
 pub mod Views
 pub mod Climbing
 pub mod Headings
+pub mod FormulaViews

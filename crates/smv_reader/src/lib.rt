@@ -4,6 +4,8 @@
 
 mod expression;
 mod formals;
+mod formulas;
+mod groups;
 mod opening;
 mod operators;
 mod parsed;

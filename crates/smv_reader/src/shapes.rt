@@ -1,7 +1,7 @@
 ghost use Rattle.std.specs.Prelude.{true};
 ghost use Rattle.smv_tree.specs.Models.{shape_of};
 ghost use Rattle.smv_reading.specs.Halts.{Reads};
-ghost use Rattle.smv_rules.specs.Programs.{a_declared, actuals, instantiated};
+ghost use Rattle.smv_rules.specs.Programs.{a_declared, actuals, instantiated, some_actuals};
 ghost use Rattle.smv_rules.specs.Running.{run};
 
 use crate::reader::Reader;
@@ -10,6 +10,21 @@ use smv_token::{Lexeme, Mark, Token};
 use smv_tree::{Name, Place, TypeSyntax};
 
 impl Reader {
+    /// One or more actual parameters of an instance and their `)`.
+    #[tactic(auto, unfolding(smv_rules::specs::Running::run))]
+    fn some_actuals<'a>(
+        self,
+        name: Name,
+        place: Place,
+        tokens: &'a [Token],
+    ) -> Result<(TypeSyntax, &'a [Token]), Halt>
+        ensures { Reads (λ x. (shape_of x.0, x.1.now)) result (run self.room (some_actuals name place) tokens.now) }
+    {
+        let (operands, rest) = self.operands(tokens)?;
+        let (_, rest) = self.expect(Mark::CloseRound, rest)?;
+        Ok((TypeSyntax::Instance(name, place, operands.exprs), rest))
+    }
+
     /// The actual parameters of an instance and their `)`.
     #[tactic(auto, unfolding(smv_rules::specs::Running::run, smv_rules::specs::Keys::sees))]
     fn actuals<'a>(
@@ -25,9 +40,7 @@ impl Reader {
             let none = Vec::new(self.alloc);
             return Ok((TypeSyntax::Instance(name, place, none), rest));
         }
-        let (operands, rest) = self.operands(rest)?;
-        let (_, rest) = self.expect(Mark::CloseRound, rest)?;
-        Ok((TypeSyntax::Instance(name, place, operands.exprs), rest))
+        self.some_actuals(name, place, rest)
     }
 
     /// An instance, behind the name of its module.
