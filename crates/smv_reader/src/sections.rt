@@ -26,7 +26,7 @@ pub enum Heading {
 
 /// What the section of a word holds.
 #[tactic(auto, unfolding(smv_rules::specs::Keys::heading_by))]
-fn heading_by(mark: Mark) -> Option<Heading>
+pub fn heading_by(mark: Mark) -> Option<Heading>
     ensures { heading_seen result ≡ heading_by mark }
 {
     match mark {
@@ -71,7 +71,7 @@ impl Reader {
 
     /// The declarations of a section, behind other parts.
     #[tactic(auto, using(crate::proofs::Loops::loop_stops, crate::proofs::Loops::loop_goes, crate::proofs::Loops::loop_less))]
-    fn declarations<'a>(
+    pub fn declarations<'a>(
         self,
         kind: Kind,
         instances: bool,
@@ -114,7 +114,7 @@ impl Reader {
 
     /// The definitions of a section, behind other parts.
     #[tactic(auto, using(crate::proofs::Loops::loop_stops, crate::proofs::Loops::loop_goes, crate::proofs::Loops::loop_less))]
-    fn definitions<'a>(self, items: &mut Items, tokens: &'a [Token]) -> Result<&'a [Token], Halt>
+    pub fn definitions<'a>(self, items: &mut Items, tokens: &'a [Token]) -> Result<&'a [Token], Halt>
         ensures { Reads (λ x. (map part_of items.new.items, x.now)) result (run self.room (defined (map part_of items.old.items)) tokens.now) }
     {
         let mut rest = tokens;
@@ -187,7 +187,7 @@ impl Reader {
 
     /// The assignments of a section, behind other parts.
     #[tactic(auto, using(crate::proofs::Loops::loop_stops, crate::proofs::Loops::loop_goes, crate::proofs::Loops::loop_less))]
-    fn assignments<'a>(self, items: &mut Items, tokens: &'a [Token]) -> Result<&'a [Token], Halt>
+    pub fn assignments<'a>(self, items: &mut Items, tokens: &'a [Token]) -> Result<&'a [Token], Halt>
         ensures { Reads (λ x. (map part_of items.new.items, x.now)) result (run self.room (all_assigned (map part_of items.old.items)) tokens.now) }
     {
         let mut rest = tokens;
@@ -199,7 +199,7 @@ impl Reader {
 
     /// A constraint, behind the word of its section and behind other parts.
     #[tactic(auto, unfolding(smv_rules::specs::Running::run))]
-    fn constraint<'a>(
+    pub fn constraint<'a>(
         self,
         items: &mut Items,
         section: Section,

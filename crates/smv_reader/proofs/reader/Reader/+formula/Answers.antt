@@ -10,10 +10,10 @@ use Rattle.smv_reader.proofs.Turning.{front_first}
 use Rattle.smv_reader.proofs.reader.Reader.+formula.Goals as goal
 
 pub formula-implied_formula-requires : goal.formula-implied_formula-requires
-formula-implied_formula-requires t c = (omega arith, flagged_left _ _ _ _ _ _ _ c.in_ok-left.ensures c.requires.flagged)
+formula-implied_formula-requires t c = (omega arith, flagged_left _ _ a_formula (formula_level _) _ _ _ c.in_ok-left.ensures c.requires.flagged)
 
 pub formula-more_connected-requires : goal.formula-more_connected-requires
-formula-more_connected-requires t c = (omega arith, (omega arith, (c.requires.most, flagged_left _ _ _ _ _ _ _ c.in_ok-left.ensures c.requires.flagged)))
+formula-more_connected-requires t c = (omega arith, (omega arith, (c.requires.most, flagged_left _ _ a_formula (formula_level _) _ _ _ c.in_ok-left.ensures c.requires.flagged)))
 
 pub formula_operand-returns-in_default : goal.formula_operand-returns-in_default
 formula_operand-returns-in_default t c = rw (operand_atom c.args.self.room c.args.tokens.now (no_start c.args.tokens.now c.in_default.len_below)) c.atom.ensures
@@ -30,7 +30,9 @@ more_connected-returns-in_err-more t c =
     rw (p.1, p.2) (loop_fails _ _ a_formula (joined _ _ _) _ _ c.in_err-more.ensures c.operators.invariant.value)
 
 pub more_connected-operators-preserved : goal.more_connected-operators-preserved
-more_connected-operators-preserved t c = record {
-  value = ?;
-  flagged = ?;
-}
+more_connected-operators-preserved t c =
+    let e = rw c.in-Some.is at c.in_ok-more.ensures in
+    record {
+      value = loop_goes _ a_formula _ _ _ _ _ _ e ∙ c.operators.invariant.value;
+      flagged = flagged_turn _ _ a_formula _ _ _ _ _ _ e c.operators.invariant.flagged;
+    }
