@@ -1,6 +1,7 @@
 -- Each turn of the loop over the operators behind an expression.
-use Rattle.std.proofs.Common.{◌≡◌, ◌<◌, ◌≤◌, ◌+◌, ◌-◌, ◌==◌, ℕ, zero, suc, max, Bool, true, false, if◌then◌else◌, List, [], ◌∷◌, length, Option, Some, None, Result, Ok, Err, refl, sym, ◌∙◌, ap, subst, ◌⊎◌, inl, inr, arith, ltb-false, ltb-true, nat_lt}
+use Rattle.std.proofs.Common.{◌≡◌, ◌<◌, ◌≤◌, ◌+◌, ◌-◌, ◌==◌, ℕ, zero, suc, max, Bool, true, false, if◌then◌else◌, List, [], ◌∷◌, length, get_or, take, drop, Option, Some, None, Result, Ok, Err, refl, sym, ◌∙◌, ap, subst, ◌⊎◌, inl, inr, arith, ltb-false, ltb-true, nat_lt}
 use Rattle.std.proofs.lemmas.Bool.Decides.{eqb_tells}
+use Rattle.std.proofs.lemmas.List.{take_all}
 use denote.Enum.Bare.{true_same}
 use Rattle.smv_token.specs.contracts.mark.Mark.{the_type}
 use Rattle.smv_tree.specs.declared.place.Place.{Place}
@@ -21,14 +22,14 @@ use Rattle.smv_reading.specs.Halts.{Halts}
 use Rattle.smv_reading.specs.Reading.{Stop, wrong, deep, ◌>>=◌}
 use Rattle.smv_text_reading.specs.RuleReading.{Got}
 use Rattle.smv_text_reading.proofs.Pieces.{ReachedTo}
-use Rattle.smv_rules.specs.Keys.{Key, Payload, Unseen, by_mark, if_there, mark_of, of_level, sees, with_place}
+use Rattle.smv_rules.specs.Keys.{Key, Payload, Primary, Unseen, by_mark, if_there, mark_of, of_level, primary_of, sees, with_place}
 use Rattle.smv_rules.specs.Keys as key
 use Rattle.smv_rules.specs.Rules.{Part, Rule, gives, too_deep, may, part, again, bits, ◌>>=◌ as ◌>>>◌}
 use Rattle.smv_rules.specs.Running.{if_seen, run}
 use Rattle.smv_rules.specs.Sorts.{Expression, Gift, Sort, an_expression}
 use Rattle.smv_rules.specs.Table.{table}
-use Rattle.smv_rules.specs.Expressions.{choosing, chosen, deeper, implied, implying, joined, level, prefixed, primary, selected}
-use Rattle.smv_rules.proofs.Meeting.{next_read, run_within, take_read}
+use Rattle.smv_rules.specs.Expressions.{choosing, chosen, deeper, implied, implying, joined, level, prefixed, primary, primary_from, selected}
+use Rattle.smv_rules.proofs.Meeting.{must_read, next_read, run_within, take_read}
 use Rattle.smv_reader.specs.Climbing.{Infix, Prefix, as_infix, climb, closed_at, closed_by, infix_at, level_by, marked_infix, marked_level, next_level, prefix_at, prefix_by, reached, tail, up}
 use Rattle.smv_reader.proofs.Climbing.{Place_of, bang_climbs, bind_bind, bind_same, climb_none, climb_to, halts_same, halts_then, minus_climbs, primary_climbs}
 
@@ -163,6 +164,18 @@ primary_read n l ts vs a e g = operand_plain n l ts e ∙ ap (λ (r : Got Expres
 
 pub primary_halts : (h : Halt) (n l : ℕ) (ts : List Token) → prefix_at l ts ≡ None → Halts h (run n primary ts) → Halts h (run n (level l) ts)
 primary_halts h n l ts e g = halts_same h (run n primary ts >>= up n 0 l) (run n (level l) ts) (sym (operand_plain n l ts e)) (halts_then h (run n primary ts) (up n 0 l) g)
+
+-- the first token, and those behind it
+pub front_first : (ts : List Token) (t : Token) → 1 ≤ length ts → t ≡ get_or ts 0 t → ts ≡ t ∷ take (length ts - 1) (drop 1 ts)
+front_first [] t h e = absurd (omega arith)
+front_first (u ∷ us) t h e =
+    let s : take (length (u ∷ us) - 1) us ≡ us = take_all (length (u ∷ us) - 1) us (omega arith) in
+    ap (λ v. v ∷ us) (sym e) ∙ ap (λ vs. t ∷ vs) (sym s)
+
+-- a primary expression from its first token
+pub primary_at : (n : ℕ) (ts us : List Token) (t : Token) (o : Primary) → ts ≡ t ∷ us → primary_of t.lexeme ≡ Some o → run n primary ts ≡ run n (primary_from o t.place) us
+unfolding sees
+primary_at n ts us t o e f = ap (run n primary) e ∙ must_read n an_expression key.primary (λ x. primary_from x.0 x.1) t (o, t.place) us (ap (λ x. with_place x t.place) f)
 
 -- the levels of the operators between operands
 abbrev is_joined : ℕ → Bool

@@ -1,9 +1,9 @@
 -- What the code hands on, as the rules give it.
 use Rattle.std.specs.Prelude.{List, Option, Some, None, map, codes}
 use denote.Ref.{Bor}
-use Rattle.smv_tree.specs.Trees.{Tree, expr_tree}
-use Rattle.smv_tree.specs.declared.expr.Branch.{Branch}
+use Rattle.smv_tree.specs.Trees.{expr_tree}
 use Rattle.smv_token.specs.declared.token.Token.{Token}
+use Rattle.smv_grammar.specs.Branches.{arm_of}
 use Rattle.smv_rules.specs.Sorts.{Branches, Expression, Operands}
 use Rattle.smv_rules.specs.Keys as key
 use Rattle.smv_reader.specs.declared.opening.Opener.{Opener}
@@ -19,9 +19,6 @@ expression_of x = record { tree = expr_tree x.expr; depth = x.depth; bare = x.ba
 
 abbrev pub operands_of : ParsedList → Operands
 operands_of x = record { trees = map expr_tree x.exprs.items; depth = x.depth }
-
-abbrev pub arm_of : Branch → Tree × Tree
-arm_of b = (expr_tree b.condition, expr_tree b.value)
 
 abbrev pub branches_of : ParsedCase → Branches
 branches_of x = record { arms = map arm_of x.branches.items; depth = x.depth }

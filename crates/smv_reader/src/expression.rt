@@ -1,7 +1,7 @@
 ghost use Rattle.std.specs.Prelude.{◌≡◌, ◌<◌, ◌≤◌, ◌∷◌, []};
 ghost use Rattle.smv_tree.specs.Trees.{expr_tree, next, one};
 ghost use Rattle.smv_reading.specs.Halts.{Halts, Reads};
-ghost use Rattle.smv_rules.specs.Expressions.{applied, branch, choosing, counted, enclosed, expr, implying, level, listed, listed_branches, more_branches, more_operands, nested, opened, operands, prefixed, primary, primary_from, side, widened};
+ghost use Rattle.smv_rules.specs.Expressions.{applied, branch, choosing, counted, enclosed, expr, implying, level, listed, listed_branches, more_branches, more_operands, nested, no_branches, opened, operands, prefixed, primary, primary_from, side, widened};
 ghost use Rattle.smv_rules.specs.Keys.{begins_with};
 ghost use Rattle.smv_rules.specs.Rules.{bits, inside, must, part, too_deep};
 ghost use Rattle.smv_rules.specs.Keys.{operand};
@@ -237,6 +237,16 @@ impl Reader {
         Ok(rest)
     }
 
+    /// The first branch of a case.
+    #[cycle(expression)]
+    fn first_branch(self, tokens: &[Token]) -> Result<(ParsedCase, &[Token]), Halt>
+        ensures { Reads (λ x. (branches_of x.0, x.1.now)) result (run self.room (branch no_branches) tokens.now) }
+    {
+        let mut branches = ParsedCase::empty(self.alloc);
+        let rest = self.branch(&mut branches, tokens)?;
+        Ok((branches, rest))
+    }
+
     /// One more branch behind a `;`, if the end of the case does not stand behind it.
     #[cycle(expression)]
     #[tactic(auto, unfolding(smv_rules::specs::Running::run, smv_rules::specs::Keys::sees, crate::specs::Turns::turn))]
@@ -278,9 +288,8 @@ impl Reader {
     fn cases(self, place: Place, tokens: &[Token]) -> Result<(Parsed, &[Token]), Halt>
         ensures { Reads found result (run self.room (listed_branches place) tokens.now) }
     {
-        let mut branches = ParsedCase::empty(self.alloc);
-        let rest = self.branch(&mut branches, tokens)?;
-        let (branches, rest) = self.more_branches(branches, rest)?;
+        let (first, rest) = self.first_branch(tokens)?;
+        let (branches, rest) = self.more_branches(first, rest)?;
         let (_, rest) = self.expect(Mark::Semicolon, rest)?;
         let (_, rest) = self.expect(Mark::Esac, rest)?;
         self.deeper(Expr::Case(place, branches.branches), branches.depth, rest)

@@ -80,6 +80,9 @@ decreases-next_branch l = 100 * l.self.room + 95
 abbrev pub decreases-branch : goal.decreases-branch
 decreases-branch l = 100 * l.self.room + 94
 
+abbrev pub decreases-first_branch : goal.decreases-first_branch
+decreases-first_branch l = 100 * l.self.room + 95
+
 abbrev pub invariant-more_operands-operands : goal.invariant-more_operands-operands
 invariant-more_operands-operands l = run l.self.room (more_operands (operands_of l.operands)) l.rest ≡ run l.self.room (more_operands (operands_of l.fn.before)) l.tokens
 
