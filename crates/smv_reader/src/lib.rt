@@ -16,3 +16,8 @@ mod sections;
 mod shapes;
 mod simple;
 mod types;
+
+pub use formulas::ParsedFormula;
+pub use groups::group_flags;
+pub use parsed::Parsed;
+pub use reader::Reader;

@@ -63,11 +63,7 @@ impl Reader {
 
     /// The sections of a module.
     #[tactic(auto, using(crate::proofs::Loops::loop_stops, crate::proofs::Loops::loop_goes, crate::proofs::Loops::loop_less, crate::proofs::Flags::flagged_turn))]
-    fn sections<'a>(
-        self,
-        flags: &[bool],
-        tokens: &'a [Token],
-    ) -> Result<(Items, &'a [Token]), Halt>
+    fn sections<'a>(self, flags: &[bool], tokens: &'a [Token]) -> Result<(Items, &'a [Token]), Halt>
         requires { Flagged flags.now tokens.now }
         ensures { Reads (λ x. (map part_of x.0.items, x.1.now)) result (run self.room sections tokens.now) }
     {

@@ -114,7 +114,11 @@ impl Reader {
 
     /// The definitions of a section, behind other parts.
     #[tactic(auto, using(crate::proofs::Loops::loop_stops, crate::proofs::Loops::loop_goes, crate::proofs::Loops::loop_less))]
-    pub fn definitions<'a>(self, items: &mut Items, tokens: &'a [Token]) -> Result<&'a [Token], Halt>
+    pub fn definitions<'a>(
+        self,
+        items: &mut Items,
+        tokens: &'a [Token],
+    ) -> Result<&'a [Token], Halt>
         ensures { Reads (λ x. (map part_of items.new.items, x.now)) result (run self.room (defined (map part_of items.old.items)) tokens.now) }
     {
         let mut rest = tokens;
@@ -187,7 +191,11 @@ impl Reader {
 
     /// The assignments of a section, behind other parts.
     #[tactic(auto, using(crate::proofs::Loops::loop_stops, crate::proofs::Loops::loop_goes, crate::proofs::Loops::loop_less))]
-    pub fn assignments<'a>(self, items: &mut Items, tokens: &'a [Token]) -> Result<&'a [Token], Halt>
+    pub fn assignments<'a>(
+        self,
+        items: &mut Items,
+        tokens: &'a [Token],
+    ) -> Result<&'a [Token], Halt>
         ensures { Reads (λ x. (map part_of items.new.items, x.now)) result (run self.room (all_assigned (map part_of items.old.items)) tokens.now) }
     {
         let mut rest = tokens;

@@ -58,11 +58,7 @@ impl Reader {
 
     /// The elements behind the first, each behind a comma.
     #[tactic(auto, using(crate::proofs::Loops::loop_stops, crate::proofs::Loops::loop_goes, crate::proofs::Loops::loop_less))]
-    fn more_elements(
-        self,
-        first: Value,
-        tokens: &[Token],
-    ) -> Result<(Vec<Value>, &[Token]), Halt>
+    fn more_elements(self, first: Value, tokens: &[Token]) -> Result<(Vec<Value>, &[Token]), Halt>
         ensures { Reads (λ x. (x.0.items, x.1.now)) result (run self.room (more_elems (first ∷ [])) tokens.now) }
     {
         let mut elements = vec![in self.alloc; first]?;
