@@ -4,3 +4,4 @@ pub mod Turning
 pub mod Levels
 pub mod FormulaLevels
 pub mod Flags
+pub mod Options

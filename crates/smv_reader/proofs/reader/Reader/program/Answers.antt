@@ -12,4 +12,9 @@ returns-in_err-behind c =
     rw (p.1, p.2) (loop_fails _ _ some_bodies (more_modules _) _ _ c.in_err-behind.ensures c.modules.invariant.value)
 
 pub modules-preserved : goal.modules-preserved
-modules-preserved c = ?
+modules-preserved c =
+    let e = rw c.in-Some.is at c.in_ok-behind.ensures in
+    record {
+      value = loop_goes _ some_bodies _ _ _ _ _ _ e ∙ c.modules.invariant.value;
+      flagged = flagged_turn _ _ some_bodies _ _ _ _ _ _ e c.modules.invariant.flagged;
+    }

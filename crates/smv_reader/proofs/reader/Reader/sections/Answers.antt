@@ -12,4 +12,9 @@ returns-in_err-behind c =
     rw (p.1, p.2) (loop_fails _ _ some_parts (more_sections _) _ _ c.in_err-behind.ensures c.sections.invariant.value)
 
 pub sections-preserved : goal.sections-preserved
-sections-preserved c = ?
+sections-preserved c =
+    let e = rw c.in-Some.is at c.in_ok-behind.ensures in
+    record {
+      value = loop_goes _ some_parts _ _ _ _ _ _ e ∙ c.sections.invariant.value;
+      flagged = flagged_turn _ _ some_parts _ _ _ _ _ _ e c.sections.invariant.flagged;
+    }
