@@ -1,0 +1,7 @@
+pub mod Loops
+pub mod Climbing
+pub mod Turning
+pub mod Levels
+pub mod FormulaLevels
+pub mod Flags
+pub mod Options

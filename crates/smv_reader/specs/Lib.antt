@@ -1,0 +1,5 @@
+pub mod Turns
+pub mod Views
+pub mod Climbing
+pub mod Headings
+pub mod FormulaViews
