@@ -1,9 +1,9 @@
 -- Expressions that are printed no deeper than they are.
-use Rattle.std.proofs.Common.{◌≡◌, ◌≤◌, ◌||◌, ℕ, suc, max, Bool, true, false, cond, nat_lt, List, [], ◌∷◌, ◌++◌, refl, sym, ◌∙◌, subst, ap, arith}
+use Rattle.std.proofs.Common.{◌≡◌, ◌≤◌, ◌<◌, ◌||◌, ℕ, suc, max, Bool, true, false, cond, nat_lt, List, [], ◌∷◌, ◌++◌, refl, sym, ◌∙◌, subst, ap, arith}
 use Rattle.std.proofs.lemmas.Bool.{le-ltb, ltb-false, ltb-true}
 use Rattle.smv_tree.specs.declared.expr.Op1.TheVariants as op1
 use Rattle.smv_tree.specs.Trees.{Tree, choice, one, two, select, span, trees, arms}
-use Rattle.smv_grammar.specs.Forms.{left_level}
+use Rattle.smv_grammar.specs.Forms.{deepest, left_level}
 use Rattle.smv_rules.specs.Sorts.{Branches, Expression, Operands}
 use Rattle.smv_print.specs.declared.lead.Lead.{Lead}
 use Rattle.smv_print.specs.declared.lead.Lead.TheVariants as lead
@@ -22,6 +22,7 @@ pub record Fits (clean : Bool) (l : ℕ) (x : Expression) : Type 0 where
   pub well : Scannables x.tree
   pub shallow : (k : Lead) → Clean k clean → depth_in k l x.tree ≤ x.depth
   pub bare : x.bare ≡ true → IsSpan x.tree
+  pub within : x.depth ≤ deepest
 
 -- parentheses are one nesting more
 in_more : (x : Tree) (k : Lead) (l : ℕ) → depth x k ≤ suc (depth x lead.Free) → depth_in k l x ≤ suc (depth_in lead.Free l x)
@@ -69,10 +70,10 @@ looser x k l m le = by_test (nat_lt m (level x)) refl (nat_lt l (level x)) refl 
   by_test false e false f r = omega arith
 
 pub fits_looser : (clean : Bool) (l m : ℕ) (x : Expression) → l ≤ m → Fits clean l x → Fits clean m x
-fits_looser clean l m x le h = record { well = h.well; shallow = λ k c. let f = h.shallow k c in let g = looser x.tree k l m le in omega (arith, f, g); bare = h.bare }
+fits_looser clean l m x le h = record { well = h.well; shallow = λ k c. let f = h.shallow k c in let g = looser x.tree k l m le in omega (arith, f, g); bare = h.bare; within = h.within }
 
 pub fits_any : (clean : Bool) (l : ℕ) (x : Expression) → Fits true l x → Fits clean l x
-fits_any clean l x h = record { well = h.well; shallow = λ k c. h.shallow k (by k); bare = h.bare } where
+fits_any clean l x h = record { well = h.well; shallow = λ k c. h.shallow k (by k); bare = h.bare; within = h.within } where
   by : (k : Lead) → Clean k true
   by lead.Free = tt
   by lead.Minus = tt
@@ -90,10 +91,10 @@ span_depth x k s = absurd s
 
 -- brackets add nothing to a range that stands alone
 pub round_bare : (l : ℕ) (x : Expression) → x.bare ≡ true → Fits false l x → Fits true 1 (record { tree = x.tree; depth = x.depth; bare = false })
-round_bare l x e h = record { well = h.well; shallow = λ k c. let d = free_part false l x h in let f = span_depth x.tree k (h.bare e) in omega (arith, d, f); bare = λ f. absurd (cc) }
+round_bare l x e h = record { well = h.well; shallow = λ k c. let d = free_part false l x h in let f = span_depth x.tree k (h.bare e) in omega (arith, d, f); bare = λ f. absurd (cc); within = h.within }
 
-pub round_fits : (l : ℕ) (x : Expression) → Fits false l x → Fits true 1 (record { tree = x.tree; depth = suc x.depth; bare = false })
-round_fits l x h = record { well = h.well; shallow = λ k c. let d = free_part false l x h in let f = in_brackets x.tree k 1 in let g = held_less x.tree lead.Free in omega (arith, d, f, g); bare = λ f. absurd (cc) }
+pub round_fits : (l : ℕ) (x : Expression) → Fits false l x → x.depth < deepest → Fits true 1 (record { tree = x.tree; depth = suc x.depth; bare = false })
+round_fits l x h w = record { well = h.well; shallow = λ k c. let d = free_part false l x h in let f = in_brackets x.tree k 1 in let g = held_less x.tree lead.Free in omega (arith, d, f, g); bare = λ f. absurd (cc); within = w }
 
 -- what is never misread
 abbrev pub is_plain : Tree → Bool
@@ -113,8 +114,8 @@ in_level x k l d h m g = subst (λ b. cond b (suc (held x (depth x lead.Free))) 
   neither : (a b : Bool) → a ≡ false → b ≡ false → (a || b) ≡ false
   neither a b e f = ap (λ c. c || b) e ∙ f
 
-pub fits_plain : (clean : Bool) (l : ℕ) (x : Tree) (d : ℕ) → Scannables x → level x ≤ l → is_plain x ≡ true → ((k : Lead) → Clean k clean → depth x k ≤ d) → Fits clean l (record { tree = x; depth = d; bare = false })
-fits_plain clean l x d s h e g = record { well = s; shallow = λ k c. in_level x k l d h (plain_read k x e) (g k c); bare = λ f. absurd (cc) }
+pub fits_plain : (clean : Bool) (l : ℕ) (x : Tree) (d : ℕ) → Scannables x → level x ≤ l → is_plain x ≡ true → ((k : Lead) → Clean k clean → depth x k ≤ d) → d ≤ deepest → Fits clean l (record { tree = x; depth = d; bare = false })
+fits_plain clean l x d s h e g w = record { well = s; shallow = λ k c. in_level x k l d h (plain_read k x e) (g k c); bare = λ f. absurd (cc); within = w }
 
 -- operands, and branches of a case
 pub record AllFit (xs : Operands) : Type 0 where

@@ -36,7 +36,7 @@ Cleanly c ts = (c ≡ true → begins_with marks.Bang ts ≡ false)
 no_true : false ≡ true → ⊥
 no_true e = absurd (cc)
 
-not_clean : (ts : List Token) → Cleanly false ts
+pub not_clean : (ts : List Token) → Cleanly false ts
 not_clean ts e = absurd (no_true e)
 
 -- behind a token

@@ -179,11 +179,11 @@ mark_is m (lexeme.Name n) e = absurd (cc)
 mark_is m (lexeme.Number n) e = absurd (cc)
 mark_is m (lexeme.Word w) e = absurd (cc)
 
-there : {X : Type 0} (b : Bool) (x y : X) → if_there b x ≡ Some y → b ≡ true
+pub there : {X : Type 0} (b : Bool) (x y : X) → if_there b x ≡ Some y → b ≡ true
 there true x y e = refl
 there false x y e = absurd (cc)
 
-not_first : {X : Type 0} (b c : Bool) (x y : X) → cond b None (if_there c x) ≡ Some y → c ≡ true
+pub not_first : {X : Type 0} (b c : Bool) (x y : X) → cond b None (if_there c x) ≡ Some y → c ≡ true
 not_first true c x y e = absurd (cc)
 not_first false c x y e = there c x y e
 
@@ -191,7 +191,7 @@ abbrev first_of : {X : Type 0} → Option (X × Place) → Option X
 first_of None = None
 first_of (Some y) = Some y.0
 
-placed : {X : Type 0} (o : Option X) (p : Place) (y : X × Place) → with_place o p ≡ Some y → o ≡ Some y.0
+pub placed : {X : Type 0} (o : Option X) (p : Place) (y : X × Place) → with_place o p ≡ Some y → o ≡ Some y.0
 placed None p y e = absurd (cc)
 placed (Some x) p y e = ap first_of e
 
@@ -199,7 +199,7 @@ placed (Some x) p y e = ap first_of e
 mark_role : (m : Mark) (w : Lexeme) → is_mark m w ≡ true → role_of w ≡ role_of_mark m
 mark_role m w e = ap role_of (mark_is m w e)
 
-primary_seen : (w : Lexeme) (o : Primary) → primary_of w ≡ Some o → role_of w ≡ primary_role o
+pub primary_seen : (w : Lexeme) (o : Primary) → primary_of w ≡ Some o → role_of w ≡ primary_role o
 primary_seen (lexeme.Mark m) o e = primary_marks m ∙ ap (λ q. role_or (role_of_mark m) primary_role q) e
 primary_seen (lexeme.Name n) o e = ap (λ q. role_or plain primary_role q) e
 primary_seen (lexeme.Number n) o e = ap (λ q. role_or plain primary_role q) e
@@ -217,10 +217,10 @@ number_seen (lexeme.Mark m) o e = absurd (cc)
 number_seen (lexeme.Name n) o e = absurd (cc)
 number_seen (lexeme.Word v) o e = absurd (cc)
 
-levels_of : (l : ℕ) (q : Option (ℕ × Op2)) (o : Op2) → of_level l q ≡ Some o → (q ≡ Some (l, o))
+pub levels_of : {X : Type 0} (l : ℕ) (q : Option (ℕ × X)) (o : X) → of_level l q ≡ Some o → q ≡ Some (l, o)
 levels_of l None o e = absurd (cc)
-levels_of l (Some i) o e = by_test (i.0 == l) refl e where
-  by_test : (b : Bool) → (i.0 == l) ≡ b → cond {A = Option Op2} b (Some i.1) None ≡ Some o → Some i ≡ Some (l, o)
+levels_of {X} l (Some i) o e = by_test (i.0 == l) refl e where
+  by_test : (b : Bool) → (i.0 == l) ≡ b → cond {A = Option X} b (Some i.1) None ≡ Some o → Some i ≡ Some (l, o)
   by_test true f e = let s : i.1 ≡ o = cc in ap (λ a. Some (a, i.1)) (eqb-true i.0 l f) ∙ ap (λ b. Some (l, b)) s
   by_test false f e = absurd (cc)
 

@@ -17,3 +17,10 @@ pub mod Fits
 pub mod Giving
 pub mod GivenParts
 pub mod Gave
+pub mod ClaimRules
+pub mod Timed
+pub mod ClaimsFit
+pub mod ClaimsGiven
+pub mod AtomStarts
+pub mod ClaimsRespelled
+pub mod Reparsed

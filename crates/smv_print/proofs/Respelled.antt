@@ -136,7 +136,7 @@ select_again p a high low n again c d k le lt =
     says_number (says_mark (λ r. says_number (says_mark (λ t.
     says_deeper (select q y.tree (capped high) (capped low)) y.depth (omega (arith, s, lt)) (record {
       like = record { alike = ap (λ z. select nowhere z high low) h.alike ∙ ap (λ z. select nowhere (unplaced y.tree) z low) (sym c) ∙ ap (select nowhere (unplaced y.tree) (capped high)) (sym d); small = omega (arith, s) };
-      bare = λ u. absurd u
+      bare = λ u. absurd u;
     })))))))
 
 -- operators between two operands

@@ -21,6 +21,7 @@ use Rattle.smv_rules.proofs.Inverting.{Inverted, inverted}
 use Rattle.smv_rules.specs.Follows.{plain, Follows, Ruled, done, has, takes, skips, nests, stays, chains, stops, goes_on}
 use Rattle.smv_print.specs.Alike.{Laid, inked, lexemes}
 use Rattle.smv_print.specs.Printing.{Ink, blank, numeral, symbol, token}
+use Rattle.smv_print.specs.Scannables.{AllScannable}
 
 abbrev pub stands : Place → Lexeme → Token
 stands p w = record { place = p; lexeme = w }
@@ -76,27 +77,37 @@ lays_quiet [] ts rest l n q = subst (λ us. begins_dots us ≡ false) (sym l) q
 lays_quiet (blank ∷ is) ts rest l n q = lays_quiet is ts rest l n q
 lays_quiet (token w ∷ is) ts rest l n q = subst (λ us. begins_dots us ≡ false) (sym l.is) n
 
+-- what stands behind tokens that texts have
+pub past : {ts us : List Token} {t : Token} → ts ≡ t ∷ us → AllScannable ts → AllScannable us
+past e a = (subst AllScannable e a).1
+
+pub lays_scannable : (is : List Ink) (ts rest : List Token) → Lays is ts rest → AllScannable ts → AllScannable rest
+lays_scannable [] ts rest l a = subst AllScannable l a
+lays_scannable (blank ∷ is) ts rest l a = lays_scannable is ts rest l a
+lays_scannable (token w ∷ is) ts rest l a = lays_scannable is l.others rest l.behind (past l.is a)
+
 -- what a rule gives of tokens
 pub record Said (n : ℕ) {s : Sort} (r : Rule s) (G : Gift s → Type 0) (ts rest : List Token) : Type 0 where
   pub given : Gift s
   pub follows : Follows plain n s r ts rest given
   pub holds : G given
 
--- Tokens that are what is printed, where no `..` follows them, are what the rule says.
+-- Tokens that texts have and that are what is printed, where no `..` follows them, are what the rule
+-- says.
 pub record Says (n : ℕ) {s : Sort} (r : Rule s) (is : List Ink) (G : Gift s → Type 0) : Type 0 where
-  pub along : (ts rest : List Token) → Lays is ts rest → begins_dots rest ≡ false → Said n r G ts rest
+  pub along : (ts rest : List Token) → Lays is ts rest → begins_dots rest ≡ false → AllScannable ts → Said n r G ts rest
 
-said_at : {n : ℕ} {s : Sort} {r : Rule s} {G : Gift s → Type 0} {ts us rest : List Token} → ts ≡ us → Said n r G us rest → Said n r G ts rest
+pub said_at : {n : ℕ} {s : Sort} {r : Rule s} {G : Gift s → Type 0} {ts us rest : List Token} → ts ≡ us → Said n r G us rest → Said n r G ts rest
 said_at {n} {s} {r} {G} {ts} {us} {rest} e h = subst (λ vs. Said n r G vs rest) (sym e) h
 
 pub says_blank : {n : ℕ} {s : Sort} {r : Rule s} {is : List Ink} {G : Gift s → Type 0} → Says n r is G → Says n r (blank ∷ is) G
-says_blank h = record { along = λ ts rest l q. h.along ts rest l q }
+says_blank h = record { along = λ ts rest l q a. h.along ts rest l q a }
 
 pub says_more : {n : ℕ} {s : Sort} {r : Rule s} {is : List Ink} {G H : Gift s → Type 0} → ((x : Gift s) → G x → H x) → Says n r is G → Says n r is H
-says_more g h = record { along = λ ts rest l q. let y = h.along ts rest l q in record { given = y.given; follows = y.follows; holds = g y.given y.holds } }
+says_more g h = record { along = λ ts rest l q a. let y = h.along ts rest l q a in record { given = y.given; follows = y.follows; holds = g y.given y.holds } }
 
 pub says_gives : {n : ℕ} {s : Sort} {x : Gift s} {G : Gift s → Type 0} → G x → Says n (gives s x) [] G
-says_gives {n} {s} {x} {G} g = record { along = λ ts rest l q. said_at l (record { given = x; follows = done n s x rest; holds = g }) }
+says_gives {n} {s} {x} {G} g = record { along = λ ts rest l q a. said_at l (record { given = x; follows = done n s x rest; holds = g }) }
 
 -- a token that is seen, whatever is printed behind it
 pub record Sees (k : Key) (w : Lexeme) (is : List Ink) (load : Place → Payload k) : Type 0 where
@@ -107,36 +118,46 @@ pub sees_alone : {k : Key} {w : Lexeme} {is : List Ink} {load : Place → Payloa
 sees_alone e = record { at = λ p us rest l q. e p us }
 
 pub says_must : {n : ℕ} {s : Sort} {k : Key} {f : Payload k → Rule s} {w : Lexeme} {is : List Ink} {G : Gift s → Type 0} (load : Place → Payload k) → Sees k w is load → ((p : Place) → Says n (f (load p)) is G) → Says n (must s k f) (token w ∷ is) G
-says_must {n} {s} {k} {f} {w} {is} {G} load e h = record { along = λ ts rest l q.
-    let y = (h l.place).along l.others rest l.behind q in
-    said_at l.is (record { given = y.given; follows = has n s k f (stands l.place w) (load l.place) l.others rest y.given (e.at l.place l.others rest l.behind q) y.follows; holds = y.holds }) }
+says_must {n} {s} {k} {f} {w} {is} {G} load e h = record {
+  along = λ ts rest l q a.
+      let y = (h l.place).along l.others rest l.behind q (past l.is a) in
+      said_at l.is (record { given = y.given; follows = has n s k f (stands l.place w) (load l.place) l.others rest y.given (e.at l.place l.others rest l.behind q) y.follows; holds = y.holds });
+}
 
 pub says_takes : {n : ℕ} {s : Sort} {k : Key} {f : Payload k → Rule s} {r : Rule s} {w : Lexeme} {is : List Ink} {G : Gift s → Type 0} (load : Place → Payload k) → Sees k w is load → ((p : Place) → Says n (f (load p)) is G) → Says n (may s k f r) (token w ∷ is) G
-says_takes {n} {s} {k} {f} {r} {w} {is} {G} load e h = record { along = λ ts rest l q.
-    let y = (h l.place).along l.others rest l.behind q in
-    said_at l.is (record { given = y.given; follows = takes n s k f r (stands l.place w) (load l.place) l.others rest y.given (e.at l.place l.others rest l.behind q) y.follows; holds = y.holds }) }
+says_takes {n} {s} {k} {f} {r} {w} {is} {G} load e h = record {
+  along = λ ts rest l q a.
+      let y = (h l.place).along l.others rest l.behind q (past l.is a) in
+      said_at l.is (record { given = y.given; follows = takes n s k f r (stands l.place w) (load l.place) l.others rest y.given (e.at l.place l.others rest l.behind q) y.follows; holds = y.holds });
+}
 
 pub says_skips : {n : ℕ} {s : Sort} {k : Key} {f : Payload k → Rule s} {r : Rule s} {is : List Ink} {G : Gift s → Type 0} → ((ts : List Token) → Ruled k ts) → Says n r is G → Says n (may s k f r) is G
-says_skips {n} {s} {k} {f} {r} u h = record { along = λ ts rest l q.
-    let y = h.along ts rest l q in
-    record { given = y.given; follows = skips n s k f r ts rest y.given (u ts) y.follows; holds = y.holds } }
+says_skips {n} {s} {k} {f} {r} u h = record {
+  along = λ ts rest l q a.
+      let y = h.along ts rest l q a in
+      record { given = y.given; follows = skips n s k f r ts rest y.given (u ts) y.follows; holds = y.holds };
+}
 
 pub says_then : {n : ℕ} {z s : Sort} {r : Rule z} {f : Gift z → Rule s} {is js : List Ink} {G : Gift s → Type 0} (H : Gift z → Type 0) → Says n r is H → NoDots js → ((a : Gift z) → H a → Says n (f a) js G) → Says n (then z s r f) (is ++ js) G
-says_then {n} {z} {s} {r} {f} {is} {js} {G} H h d g = record { along = λ ts rest l q.
-    let c = cut is js ts rest l in
-    let x = h.along ts c.between c.before (lays_quiet js c.between rest c.behind d q) in
-    let y = (g x.given x.holds).along c.between rest c.behind q in
-    record { given = y.given; follows = chains n z s r f ts c.between rest x.given y.given x.follows y.follows; holds = y.holds } }
+says_then {n} {z} {s} {r} {f} {is} {js} {G} H h d g = record {
+  along = λ ts rest l q a.
+      let c = cut is js ts rest l in
+      let x = h.along ts c.between c.before (lays_quiet js c.between rest c.behind d q) a in
+      let y = (g x.given x.holds).along c.between rest c.behind q (lays_scannable is ts c.between c.before a) in
+      record { given = y.given; follows = chains n z s r f ts c.between rest x.given y.given x.follows y.follows; holds = y.holds };
+}
 
 -- what is said once more with nothing printed behind it
 pub says_ends : {n : ℕ} {z s : Sort} {r : Rule z} {f : Gift z → Rule s} {is : List Ink} {G : Gift s → Type 0} (H : Gift z → Type 0) → Says n r is H → ((a : Gift z) → H a → Says n (f a) [] G) → Says n (then z s r f) is G
-says_ends {n} {z} {s} {r} {f} {is} {G} H h g = record { along = λ ts rest l q.
-    let x = h.along ts rest l q in
-    let y = (g x.given x.holds).along rest rest refl q in
-    record { given = y.given; follows = chains n z s r f ts rest rest x.given y.given x.follows y.follows; holds = y.holds } }
+says_ends {n} {z} {s} {r} {f} {is} {G} H h g = record {
+  along = λ ts rest l q a.
+      let x = h.along ts rest l q a in
+      let y = (g x.given x.holds).along rest rest refl q (lays_scannable is ts rest l a) in
+      record { given = y.given; follows = chains n z s r f ts rest rest x.given y.given x.follows y.follows; holds = y.holds };
+}
 
 pub says_stops : {n : ℕ} {s : Sort} {k : Key} {f : Gift s → Payload k → Rule s} {a : Gift s} {G : Gift s → Type 0} → ((us : List Token) → Ruled k us) → G a → Says n (again s k f a) [] G
-says_stops {n} {s} {k} {f} {a} {G} u g = record { along = λ ts rest l q. said_at l (record { given = a; follows = stops n s k f a rest (u rest); holds = g }) }
+says_stops {n} {s} {k} {f} {a} {G} u g = record { along = λ ts rest l q o. said_at l (record { given = a; follows = stops n s k f a rest (u rest); holds = g }) }
 
 pub same_self : (m : Mark) → same_mark m m ≡ true
 unfolding same_mark
@@ -150,23 +171,27 @@ pub sees_mark : {m : Mark} {is : List Ink} → Sees (key.mark m) (lexeme.Mark m)
 sees_mark {m} {is} = sees_alone (mark_seen m)
 
 pub says_mark : {n : ℕ} {s : Sort} {m : Mark} {f : Place → Rule s} {is : List Ink} {G : Gift s → Type 0} → ((p : Place) → Says n (f p) is G) → Says n (mark m >>= f) (symbol m ∷ is) G
-says_mark {n} {s} {m} {f} {is} {G} h = record { along = λ ts rest l q.
-    let p = l.place in
-    let us = l.others in
-    let y = (h p).along us rest l.behind q in
-    said_at l.is (record { given = y.given; follows = chains n a_place s (mark m) f (stands p (lexeme.Mark m) ∷ us) us rest p y.given (has n a_place (key.mark m) (λ p. gives a_place p) (stands p (lexeme.Mark m)) p us us p (mark_seen m p us) (done n a_place p us)) y.follows; holds = y.holds }) }
+says_mark {n} {s} {m} {f} {is} {G} h = record {
+  along = λ ts rest l q a.
+      let p = l.place in
+      let us = l.others in
+      let y = (h p).along us rest l.behind q (past l.is a) in
+      said_at l.is (record { given = y.given; follows = chains n a_place s (mark m) f (stands p (lexeme.Mark m) ∷ us) us rest p y.given (has n a_place (key.mark m) (λ p. gives a_place p) (stands p (lexeme.Mark m)) p us us p (mark_seen m p us) (done n a_place p us)) y.follows; holds = y.holds });
+}
 
 pub says_number : {n : ℕ} {s : Sort} {v : ℕ} {f : ℕ → Rule s} {is : List Ink} {G : Gift s → Type 0} → Says n (f v) is G → Says n (number >>= f) (numeral v ∷ is) G
 unfolding sees
-says_number {n} {s} {v} {f} {is} {G} h = record { along = λ ts rest l q.
-    let p = l.place in
-    let us = l.others in
-    let y = h.along us rest l.behind q in
-    said_at l.is (record { given = y.given; follows = chains n a_count s number f (stands p (lexeme.Number v) ∷ us) us rest v y.given (has n a_count key.number (λ n. gives a_count n) (stands p (lexeme.Number v)) v us us v refl (done n a_count v us)) y.follows; holds = y.holds }) }
+says_number {n} {s} {v} {f} {is} {G} h = record {
+  along = λ ts rest l q a.
+      let p = l.place in
+      let us = l.others in
+      let y = h.along us rest l.behind q (past l.is a) in
+      said_at l.is (record { given = y.given; follows = chains n a_count s number f (stands p (lexeme.Number v) ∷ us) us rest v y.given (has n a_count key.number (λ n. gives a_count n) (stands p (lexeme.Number v)) v us us v refl (done n a_count v us)) y.follows; holds = y.holds });
+}
 
 -- a part is nested once more, where one nesting more may be opened
 says_nests : {n : ℕ} {s : Sort} {p : Part s} {r : Rule s} {is : List Ink} {G : Gift s → Type 0} → Says n (table p) is G → Says (suc n) (part s p r) is G
-says_nests {n} {s} {p} {r} h = record { along = λ ts rest l q. let y = h.along ts rest l q in record { given = y.given; follows = nests n s p r ts rest y.given y.follows; holds = y.holds } }
+says_nests {n} {s} {p} {r} h = record { along = λ ts rest l q a. let y = h.along ts rest l q a in record { given = y.given; follows = nests n s p r ts rest y.given y.follows; holds = y.holds } }
 
 pub says_part : (n d : ℕ) {s : Sort} {p : Part s} {r : Rule s} {is : List Ink} {G : Gift s → Type 0} → 1 ≤ d → d ≤ n → ((m : ℕ) → d ≤ suc m → Says m (table p) is G) → Says n (part s p r) is G
 says_part zero d some le h = absurd (omega (arith, some, le))
@@ -195,18 +220,22 @@ one_more (goes_on n s k f a t p ts us rest b x e h j) = λ d t' p' vs rest' c e'
 
 pub says_joined : {n : ℕ} {s : Sort} {r : Rule s} {k : Key} {f : Gift s → Payload k → Rule s} (w : Lexeme) {is ks : List Ink} (js : List Ink) {G : Gift s → Type 0} (load : Place → Payload k) → ((us : List Token) → Ruled k us) → Sees k w ks load → ((ts rest : List Token) → Lays js ts rest → LaysOne w (λ us. Lays ks us rest) ts) → NoDots js → (H : Gift s → Type 0) → Says n (then s s r (λ a. again s k f a)) is H → ((b : Gift s) (p : Place) → H b → Says n (f b (load p)) ks G) → Says n (then s s r (λ a. again s k f a)) (is ++ js) G
 unfolding More Inverted
-says_joined {n} {s} {r} {k} {f} w {is} {ks} js {G} load u e o d H h g = record { along = λ ts rest l q.
-    let c = cut is js ts rest l in
-    let x = h.along ts c.between c.before (lays_quiet js c.between rest c.behind d q) in
-    let i = inverted x.follows in
-    let t = o c.between rest c.behind in
-    let y = (g x.given t.place x.holds).along t.others rest t.behind q in
-    record { given = y.given; follows = chains n s s r (λ a. again s k f a) ts i.between rest i.given y.given i.before (one_more i.behind u (stands t.place w) (load t.place) t.others rest y.given t.is (e.at t.place t.others rest t.behind q) y.follows); holds = y.holds } }
+says_joined {n} {s} {r} {k} {f} w {is} {ks} js {G} load u e o d H h g = record {
+  along = λ ts rest l q a.
+      let c = cut is js ts rest l in
+      let x = h.along ts c.between c.before (lays_quiet js c.between rest c.behind d q) a in
+      let i = inverted x.follows in
+      let t = o c.between rest c.behind in
+      let y = (g x.given t.place x.holds).along t.others rest t.behind q (past t.is (lays_scannable is ts c.between c.before a)) in
+      record { given = y.given; follows = chains n s s r (λ a. again s k f a) ts i.between rest i.given y.given i.before (one_more i.behind u (stands t.place w) (load t.place) t.others rest y.given t.is (e.at t.place t.others rest t.behind q) y.follows); holds = y.holds };
+}
 
 -- one of what comes again, before others
 pub says_goes_on : {n : ℕ} {s : Sort} {k : Key} {f : Gift s → Payload k → Rule s} {w : Lexeme} (is : List Ink) {js : List Ink} {G : Gift s → Type 0} {a : Gift s} (load : Place → Payload k) → Sees k w (is ++ js) load → (H : Gift s → Type 0) → ((p : Place) → Says n (f a (load p)) is H) → NoDots js → ((b : Gift s) → H b → Says n (again s k f b) js G) → Says n (again s k f a) (token w ∷ (is ++ js)) G
-says_goes_on {n} {s} {k} {f} {w} is {js} {G} {a} load e H h d g = record { along = λ ts rest l q.
-    let c = cut is js l.others rest l.behind in
-    let x = (h l.place).along l.others c.between c.before (lays_quiet js c.between rest c.behind d q) in
-    let y = (g x.given x.holds).along c.between rest c.behind q in
-    said_at l.is (record { given = y.given; follows = goes_on n s k f a (stands l.place w) (load l.place) l.others c.between rest x.given y.given (e.at l.place l.others rest l.behind q) x.follows y.follows; holds = y.holds }) }
+says_goes_on {n} {s} {k} {f} {w} is {js} {G} {a} load e H h d g = record {
+  along = λ ts rest l q o.
+      let c = cut is js l.others rest l.behind in
+      let x = (h l.place).along l.others c.between c.before (lays_quiet js c.between rest c.behind d q) (past l.is o) in
+      let y = (g x.given x.holds).along c.between rest c.behind q (lays_scannable is l.others c.between c.before (past l.is o)) in
+      said_at l.is (record { given = y.given; follows = goes_on n s k f a (stands l.place w) (load l.place) l.others c.between rest x.given y.given (e.at l.place l.others rest l.behind q) x.follows y.follows; holds = y.holds });
+}
