@@ -1,6 +1,6 @@
 -- What the tokens of an expression begin with, for a formula: no operator before a formula but a `!`, and
 -- no `(` that opens a formula.
-use Rattle.std.proofs.Common.{◌≡◌, ◌==◌, ◌∙◌, ℕ, zero, suc, Bool, true, false, cond, List, [], ◌∷◌, Option, Some, None, ◌⊎◌, refl, sym, subst, ap, inl, inr}
+use Rattle.std.proofs.Common.{◌≡◌, ◌==◌, ◌∙◌, ℕ, zero, suc, Bool, true, false, cond, List, ◌∷◌, Option, Some, None, refl, subst, ap, inl, inr}
 use Rattle.smv_tree.specs.declared.expr.Op1.TheVariants as op1
 use Rattle.smv_tree.specs.declared.place.Place.{Place}
 use Rattle.smv_token.specs.declared.mark.Mark.{Mark}

@@ -1,7 +1,7 @@
 -- What tokens of a rule are, by the rule's form, where the plain rules are followed.
-use Rattle.std.proofs.Common.{◌≡◌, ℕ, zero, suc, List, [], ◌∷◌, Some, ◌⊎◌, refl, inl, inr}
+use Rattle.std.proofs.Common.{◌≡◌, ℕ, zero, suc, List, ◌∷◌, Some, ◌⊎◌, refl, inl, inr}
 use Rattle.smv_token.specs.declared.token.Token.{Token}
-use Rattle.smv_rules.specs.Keys.{Key, Payload, sees}
+use Rattle.smv_rules.specs.Keys.{Payload, sees}
 use Rattle.smv_rules.specs.Sorts.{Gift, Sort}
 use Rattle.smv_rules.specs.Rules.{Rule, gives, too_deep, must, may, part, then, again}
 use Rattle.smv_rules.specs.Table.{table}

@@ -1,25 +1,20 @@
 -- Formulas that are printed no deeper than they are, with parentheses only where a text has them.
-use Rattle.std.proofs.Common.{◌≡◌, ◌≤◌, ◌<◌, ◌-◌, ◌||◌, ◌==◌, ◌∙◌, ℕ, zero, suc, max, Bool, true, false, cond, nat_lt, List, [], ◌∷◌, Option, Some, None, ◌⊎◌, refl, sym, subst, ap, arith, inl, inr}
+use Rattle.std.proofs.Common.{◌≡◌, ◌≤◌, ◌<◌, ◌||◌, ◌∙◌, ℕ, suc, max, Bool, true, false, cond, nat_lt, List, Option, Some, None, refl, sym, subst, ap, arith}
 use Rattle.std.specs.Prelude.{if◌then◌else◌}
-use Rattle.std.proofs.lemmas.Bool.{eqb-true, lt-ltb, ltb-false, ltb-true}
+use Rattle.std.proofs.lemmas.Bool.{lt-ltb, ltb-true}
 use Rattle.smv_tree.specs.declared.formula.FormOp.{FormOp}
 use Rattle.smv_tree.specs.declared.formula.FormOp.TheVariants as op
-use Rattle.smv_tree.specs.declared.place.Place.{Place}
 use Rattle.smv_tree.specs.Models.{Claim, atom, no, after, always, some_time, both}
 use Rattle.smv_token.specs.declared.mark.Mark.TheVariants as marks
 use Rattle.smv_token.specs.declared.token.Token.{Token}
 use Rattle.smv_token.specs.declared.token.Lexeme.{Lexeme}
 use Rattle.smv_token.specs.declared.token.Lexeme.TheVariants as lexeme
 use Rattle.smv_grammar.specs.Forms.{deepest}
-use Rattle.smv_grammar.specs.Formulas.{holds_temporal, is_temporal, joining, left_of, outermost, right_of, rightward, role, start_at}
-use Rattle.smv_grammar.specs.IsMark.{is_mark}
-use Rattle.smv_rules.specs.Keys.{Key, Payload, begins_with, if_there, is_bracket, of_level, prefix_of, sees}
-use Rattle.smv_rules.specs.Keys as key
-use Rattle.smv_rules.specs.Sorts.{Expression, Formula, a_formula, an_expression}
-use Rattle.smv_rules.specs.Rules.{Rule, gives, too_deep, ◌>>=◌}
-use Rattle.smv_rules.specs.Table.{table}
-use Rattle.smv_rules.specs.Expressions.{level}
-use Rattle.smv_rules.specs.Formulas.{deeper, formula_level, implied, joined, opened, operand, side}
+use Rattle.smv_grammar.specs.Formulas.{holds_temporal, left_of, outermost, right_of, start_at}
+use Rattle.smv_rules.specs.Keys.{prefix_of}
+use Rattle.smv_rules.specs.Sorts.{Formula, a_formula}
+use Rattle.smv_rules.specs.Rules.{gives, too_deep}
+use Rattle.smv_rules.specs.Formulas.{deeper}
 use Rattle.smv_rules.specs.Follows as follows
 use Rattle.smv_rules.specs.Follows.{Follows}
 use Rattle.smv_print.specs.declared.lead.Lead.TheVariants as lead

@@ -1,10 +1,9 @@
 -- What the tokens of a formula tell, by the rules of formulas.
-use Rattle.std.proofs.Common.{◌≡◌, ◌≤◌, ◌<◌, ◌-◌, ◌||◌, ◌==◌, ◌∙◌, ℕ, zero, suc, max, Bool, true, false, cond, List, [], ◌∷◌, Option, Some, None, ◌⊎◌, refl, sym, subst, ap, arith, inl, inr}
+use Rattle.std.proofs.Common.{◌≡◌, ◌≤◌, ◌<◌, ◌-◌, ◌||◌, ◌∙◌, ℕ, zero, suc, max, Bool, true, false, cond, List, [], ◌∷◌, Some, refl, sym, subst, ap, arith, inl, inr}
 use Rattle.std.specs.List.{list_any}
 use Rattle.smv_tree.specs.declared.formula.FormOp.{FormOp}
 use Rattle.smv_tree.specs.declared.place.Place.{Place}
-use Rattle.smv_tree.specs.Models.{Claim, atom, both}
-use Rattle.smv_token.specs.declared.mark.Mark.{Mark}
+use Rattle.smv_tree.specs.Models.{atom, both}
 use Rattle.smv_token.specs.declared.mark.Mark.TheVariants as marks
 use Rattle.smv_token.specs.declared.token.Token.{Token}
 use Rattle.smv_grammar.specs.Forms.{deepest}
@@ -13,10 +12,10 @@ use Rattle.smv_grammar.specs.IsMark.{is_mark}
 use Rattle.smv_rules.specs.Keys.{Unseen, begins_with, if_there, is_bracket, sees}
 use Rattle.smv_rules.specs.Keys as key
 use Rattle.smv_rules.specs.Sorts.{Expression, Formula, a_formula}
-use Rattle.smv_rules.specs.Rules.{Rule, gives, ◌>>=◌}
+use Rattle.smv_rules.specs.Rules.{Rule, ◌>>=◌}
 use Rattle.smv_rules.specs.Table.{table}
 use Rattle.smv_rules.specs.Expressions.{mark}
-use Rattle.smv_rules.specs.Formulas.{an_atom, deeper, formula_level, implied, joined, level_from, opened, operand, side}
+use Rattle.smv_rules.specs.Formulas.{an_atom, deeper, formula_level, implied, joined, opened, operand, side}
 use Rattle.smv_rules.specs.Follows.{Follows, plain}
 use Rattle.smv_rules.proofs.Inverting.{Had}
 use Rattle.smv_print.specs.declared.lead.Lead.TheVariants as lead

@@ -1,6 +1,5 @@
 -- What is printed of a formula is said again, as one alike that is as deep as what is printed.
-use Rattle.std.proofs.Common.{◌≡◌, ◌≤◌, ◌<◌, ◌-◌, ◌||◌, ◌==◌, ◌∙◌, ℕ, zero, suc, max, Bool, true, false, cond, nat_lt, List, [], ◌∷◌, ◌++◌, Option, Some, None, refl, sym, subst, ap, arith}
-use Rattle.std.specs.Prelude.{if◌then◌else◌}
+use Rattle.std.proofs.Common.{◌≡◌, ◌≤◌, ◌<◌, ◌-◌, ◌==◌, ◌∙◌, ℕ, zero, suc, max, Bool, true, false, cond, nat_lt, List, [], ◌∷◌, ◌++◌, Some, None, refl, sym, subst, ap, arith}
 use Rattle.std.proofs.lemmas.Bool.{eqb-true, lt-ltb, ltb-false, ltb-true}
 use Rattle.smv_tree.specs.declared.formula.FormOp.{FormOp}
 use Rattle.smv_tree.specs.declared.formula.FormOp.TheVariants as op
@@ -11,29 +10,29 @@ use Rattle.smv_token.specs.declared.mark.Mark.{Mark}
 use Rattle.smv_token.specs.declared.mark.Mark.TheVariants as marks
 use Rattle.smv_token.specs.declared.token.Token.{Token}
 use Rattle.smv_token.specs.declared.token.Lexeme.TheVariants as lexeme
-use Rattle.smv_grammar.specs.Forms.{begins_dots, deepest, is_dots}
+use Rattle.smv_grammar.specs.Forms.{deepest, is_dots}
 use Rattle.smv_grammar.specs.Formulas.{bracket_if, holds_temporal, left_of, outermost, right_of, start_at, start_by}
 use Rattle.smv_rules.specs.Keys.{begins_with, if_there, is_bracket, prefix_of, sees}
 use Rattle.smv_rules.specs.Keys as key
-use Rattle.smv_rules.specs.Sorts.{Expression, Formula, a_formula, an_expression}
+use Rattle.smv_rules.specs.Sorts.{Formula, a_formula, an_expression}
 use Rattle.smv_rules.specs.Rules.{Rule, gives, too_deep, ◌>>=◌}
 use Rattle.smv_rules.specs.Table.{table}
 use Rattle.smv_rules.specs.Expressions.{level}
-use Rattle.smv_rules.specs.Formulas.{an_atom, deeper, formula_level, implied, joined, level_from, opened, operand, side}
-use Rattle.smv_rules.specs.Follows.{Follows, plain, done, has, takes, skips, chains}
+use Rattle.smv_rules.specs.Formulas.{an_atom, deeper, formula_level, implied, joined, operand}
+use Rattle.smv_rules.specs.Follows.{Follows, plain, done, takes, skips, chains}
 use Rattle.smv_print.specs.Alike.{AlikeClaims, claim_unplaced}
 use Rattle.smv_print.specs.declared.lead.Lead.TheVariants as lead
 use Rattle.smv_print.specs.Printing.{Ink, around, blank, claim_inks, claim_level, claim_part, level_of_claim, mark_of_claim, spelled, symbol}
-use Rattle.smv_print.specs.Scannables.{AllScannable, ClaimScannable, Scannables}
-use Rattle.smv_print.proofs.PrintedDepth.{depth_in, place_some}
-use Rattle.smv_print.proofs.Says.{Said, Says, Sees, past, said_at, says_blank, says_ends, says_gives, says_joined, says_mark, says_more, says_part, says_skips, says_stops, says_takes, says_then, sees_alone, stands}
-use Rattle.smv_print.proofs.SaysLevels.{Like, in_place}
+use Rattle.smv_print.specs.Scannables.{ClaimScannable, Scannables}
+use Rattle.smv_print.proofs.PrintedDepth.{place_some}
+use Rattle.smv_print.proofs.Says.{Says, past, said_at, says_blank, says_ends, says_gives, says_joined, says_mark, says_part, says_skips, says_stops, says_takes, says_then, sees_alone, stands}
+use Rattle.smv_print.proofs.SaysLevels.{in_place}
 use Rattle.smv_print.proofs.Openings.{no_bang, opens_in}
 use Rattle.smv_print.proofs.RespelledTrees.{respelled}
 use Rattle.smv_print.proofs.Timed.{timed, timed_alike}
 use Rattle.smv_print.proofs.ClaimsFit.{Bracketed, Timely, claim_depth, placed_depth}
 use Rattle.smv_print.proofs.ClaimsGiven.{enclosed, grouped, nested}
-use Rattle.smv_print.proofs.AtomStarts.{Start, atom_group, atom_prefix, starts}
+use Rattle.smv_print.proofs.AtomStarts.{atom_group, atom_prefix, starts}
 
 -- a formula alike that is no deeper
 pub record LikeClaim (c : Claim) (d : ℕ) (y : Formula) : Type 0 where

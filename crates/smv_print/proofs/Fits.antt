@@ -9,7 +9,7 @@ use Rattle.smv_print.specs.declared.lead.Lead.{Lead}
 use Rattle.smv_print.specs.declared.lead.Lead.TheVariants as lead
 use Rattle.smv_print.specs.Printing.{level, misread}
 use Rattle.smv_print.specs.Scannables.{ArmsScannable, EachScannable, Scannables, SomeArms, SomeTrees}
-use Rattle.smv_print.proofs.PrintedDepth.{IsSpan, depth, depth_all, depth_arms, depth_in, held, held_less, held_near}
+use Rattle.smv_print.proofs.PrintedDepth.{IsSpan, depth, depth_all, depth_arms, depth_in, held, held_less}
 
 -- what begins an atom begins with no `!`
 abbrev pub Clean : Lead → Bool → Type 0

@@ -1,16 +1,14 @@
 -- What rules of expressions give has what their forms say.
-use Rattle.std.proofs.Common.{◌≡◌, ◌∙◌, ℕ, zero, suc, Bool, true, false, List, [], ◌∷◌, Some, refl, sym, subst, ap}
+use Rattle.std.proofs.Common.{◌≡◌, ◌∙◌, ℕ, zero, suc, Bool, true, false, List, refl, subst}
 use Rattle.smv_token.specs.declared.mark.Mark.TheVariants as marks
 use Rattle.smv_token.specs.declared.token.Token.{Token}
-use Rattle.smv_grammar.specs.Formulas.{holds_temporal, closes, plain, temporal}
 use Rattle.smv_rules.specs.Keys.{Key, Payload, begins_with, sees}
 use Rattle.smv_rules.specs.Keys as key
 use Rattle.smv_rules.specs.Sorts.{Gift, Sort}
-use Rattle.smv_rules.specs.Rules.{Part, Rule, gives, too_deep, must, may, part, then, again, expression, formula, inside, bits}
-use Rattle.smv_rules.specs.Table.{table}
+use Rattle.smv_rules.specs.Rules.{Part, Rule, formula, inside}
 use Rattle.smv_rules.specs.Follows.{Mode, Follows, done, has, takes, skips, nests, stays, chains, stops, goes_on}
 use Rattle.smv_print.specs.Scannables.{AllScannable}
-use Rattle.smv_print.proofs.Giving.{After, Fails, Given, Gives, Kept, Saw, Spans, lift, part_role, role_by, role_seen, saw, stepped}
+use Rattle.smv_print.proofs.Giving.{After, Fails, Given, Gives, Kept, Spans, lift, part_role, role_by, role_seen, saw, stepped}
 use Rattle.smv_print.proofs.GivenParts.{Expressive, given_part, open_in}
 
 pub record Gave (i : ℕ) {X : Type 0} (P : ℕ → X → Type 0) (ts rest : List Token) (x : X) : Type 0 where

@@ -1,6 +1,6 @@
 -- The rules of expressions: what they give is printed no deeper than it is.
-use Rattle.std.proofs.Common.{◌≡◌, ◌≤◌, ◌<◌, ◌==◌, ◌-◌, ℕ, ℤ, zero, suc, max, min, pos, Bool, true, false, cond, List, [], ◌∷◌, ◌++◌, Option, refl, sym, subst, ap, arith}
-use Rattle.std.specs.Prelude.{neg_ℤ, nat_lt, codes}
+use Rattle.std.proofs.Common.{◌≡◌, ◌≤◌, ◌<◌, ◌==◌, ◌-◌, ℕ, ℤ, zero, suc, max, min, pos, Bool, true, false, cond, List, [], ◌∷◌, ◌++◌, refl, sym, subst, arith}
+use Rattle.std.specs.Prelude.{neg_ℤ, nat_lt}
 use Rattle.std.proofs.lemmas.Bool.{eqb-true, ltb-true}
 use Rattle.smv_tree.specs.declared.expr.Op1.{Op1}
 use Rattle.smv_tree.specs.declared.expr.Op1.TheVariants as op1
@@ -12,18 +12,18 @@ use Rattle.smv_token.specs.declared.mark.Mark.TheVariants as marks
 use Rattle.smv_grammar.specs.Forms.{capped, deepest, integer, left_level}
 use Rattle.smv_rules.specs.Keys.{Opener, Primary, primary_by}
 use Rattle.smv_rules.specs.Keys as key
-use Rattle.smv_rules.specs.Sorts.{Expression, Operands, Branches, Gift, Sort, an_expression, an_integer}
-use Rattle.smv_rules.specs.Rules.{Part, Rule, gives, too_deep, must, may, part, then, again, expression, formula, inside, bits, ◌>>=◌}
+use Rattle.smv_rules.specs.Sorts.{Expression, Operands, Branches, Sort, an_expression}
+use Rattle.smv_rules.specs.Rules.{Part, gives, too_deep, may, expression, formula, inside, bits, ◌>>=◌}
 use Rattle.smv_rules.specs.Table.{table}
 use Rattle.smv_rules.specs.Expressions.{an_int, applied, branch, chosen, constant, counted, deeper, enclosed, implied, joined, level, level_from, listed, listed_branches, mark, more_branches, nested, number as a_number, no_branches, operands, prefixed, primary, primary_from, range_from, selected, selecting, widened}
-use Rattle.smv_print.specs.Scannables.{ArmsScannable, OwnName, OwnNames, OwnPath, Scannable, Scannables, Signed, greatest, widest}
+use Rattle.smv_print.specs.Scannables.{ArmsScannable, OwnName, OwnNames, OwnPath, Scannable, Scannables, Signed, greatest}
 use Rattle.smv_print.specs.Printing.{path_head, right_level}
 use Rattle.smv_print.specs.Printing as print
 use Rattle.smv_print.specs.declared.lead.Lead.{Lead}
 use Rattle.smv_print.specs.declared.lead.Lead.TheVariants as lead
 use Rattle.smv_print.proofs.PrintedDepth.{depth, depth_all, depth_arms, depth_in}
-use Rattle.smv_print.proofs.Fits.{AllFit, ArmsFit, Clean, Fits, branch_added, fit_added, fits_any, fits_looser, fits_plain, free_part, in_level, is_plain, round_bare, round_fits}
-use Rattle.smv_print.proofs.Giving.{After, Called, Given, Gives, Kept, OwnOperator, OwnPrimary, floor, primary_role}
+use Rattle.smv_print.proofs.Fits.{AllFit, ArmsFit, Clean, Fits, branch_added, fit_added, fits_any, fits_looser, fits_plain, free_part, is_plain, round_bare, round_fits}
+use Rattle.smv_print.proofs.Giving.{After, Called, Given, Gives, OwnOperator, OwnPrimary, floor, primary_role}
 
 abbrev pub open_in : {s : Sort} → Part s → ℕ
 open_in (inside key.round p) = 1

@@ -1,6 +1,6 @@
 -- What holds of what a rule gives, by the rule's form; and how many round brackets its tokens close.
 use denote.Enum.Bare.{same_true}
-use Rattle.std.proofs.Common.{◌≡◌, ◌≤◌, ◌||◌, ◌∙◌, ◌-◌, ℕ, zero, suc, Bool, true, false, cond, List, [], ◌∷◌, ◌++◌, Option, Some, None, refl, sym, subst, ap, arith}
+use Rattle.std.proofs.Common.{◌≡◌, ◌≤◌, ◌||◌, ◌∙◌, ◌-◌, ℕ, zero, suc, Bool, true, false, cond, List, ◌∷◌, Option, Some, None, refl, sym, subst, ap}
 use Rattle.std.specs.Prelude.{◌==◌, codes}
 use Rattle.std.specs.List.{list_any}
 use Rattle.std.specs.Str.{bytes_eq}
@@ -22,13 +22,10 @@ use Rattle.smv_grammar.specs.Formulas.{Role, opens, closes, temporal, plain, gro
 use Rattle.smv_grammar.specs.IsMark.{is_mark, same_mark}
 use Rattle.smv_rules.specs.Keys.{Key, Payload, Primary, begins_with, by_mark, if_there, mark_of, name_of, number_of, of_level, primary_by, primary_of, sees, with_place}
 use Rattle.smv_rules.specs.Keys as key
-use Rattle.smv_rules.specs.Sorts.{Expression, Gift, Sort, an_expression, some_branches, some_names, some_operands}
+use Rattle.smv_rules.specs.Sorts.{Gift, Sort, an_expression, some_branches, some_names, some_operands}
 use Rattle.smv_rules.specs.Rules.{Part, Rule, gives, too_deep, must, may, part, then, again, expression, formula, inside, bits}
-use Rattle.smv_rules.specs.Table.{table}
-use Rattle.smv_rules.specs.Follows.{Follows, done, has, takes, skips, nests, stays, chains, stops, goes_on}
-use Rattle.smv_rules.specs.Follows as follows
 use Rattle.smv_print.specs.Printing.{mark_of_two, path_head, right_level}
-use Rattle.smv_print.specs.Scannables.{AllScannable, OwnName, OwnPath, OwnWord, Scannable, greatest}
+use Rattle.smv_print.specs.Scannables.{OwnName, OwnPath, OwnWord, Scannable, greatest}
 use Rattle.smv_print.proofs.Fits.{AllFit, ArmsFit, Fits}
 
 -- what a token tells where it is seen, and the text begins with no `!` where the flag says so

@@ -1,8 +1,7 @@
 -- How deep what is printed of an expression is nested.
-use Rattle.std.proofs.Common.{◌≡◌, ◌≤◌, ◌||◌, ℕ, suc, max, Bool, true, false, cond, nat_lt, List, [], ◌∷◌, ◌++◌, if◌then◌else◌, refl, sym, ◌∙◌, ap, subst, arith}
-use Rattle.std.proofs.lemmas.Bool.{le-ltb, ltb-false, ltb-true}
+use Rattle.std.proofs.Common.{◌≡◌, ◌≤◌, ◌||◌, ℕ, suc, max, Bool, true, false, cond, nat_lt, if◌then◌else◌, refl, arith}
 use Rattle.smv_tree.specs.declared.expr.Op1.TheVariants as op1
-use Rattle.smv_tree.specs.Trees.{Tree, Trees, Arms, truth, number, word, name, span, set, cases, choice, one, two, select, next, widen, const, count, no_trees, tree, no_arms, arm, trees, arms}
+use Rattle.smv_tree.specs.Trees.{Tree, Trees, Arms, truth, number, word, name, span, set, cases, choice, one, two, select, next, widen, const, count, no_trees, tree, no_arms, arm}
 use Rattle.smv_print.specs.declared.lead.Lead.{Lead}
 use Rattle.smv_print.specs.declared.lead.Lead.TheVariants as lead
 use Rattle.smv_grammar.specs.Forms.{left_level}

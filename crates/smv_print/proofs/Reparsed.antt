@@ -1,12 +1,11 @@
 -- What is printed of what a text spells is a text that spells it again, places aside.
-use Rattle.std.proofs.Common.{◌≡◌, ◌≤◌, ℕ, false, List, [], refl, subst, arith}
+use Rattle.std.proofs.Common.{◌≡◌, ℕ, false, List, [], refl, subst, arith}
 use Rattle.std.proofs.lemmas.Result.{on_ok_weaker}
 use Rattle.std.specs.Prelude.{OnOk, Result}
 use Rattle.outside.specs.declared.Failed.{Failed}
 use Rattle.outside.specs.Told.{Output, Writes}
 use Rattle.smv_tree.specs.Models.{Claim}
 use Rattle.smv_tree.specs.Trees.{Tree}
-use Rattle.smv_token.specs.declared.token.Token.{Token}
 use Rattle.smv_grammar.specs.Forms.{deepest}
 use Rattle.smv_rules.specs.Expressions.{expr}
 use Rattle.smv_rules.specs.Sorts.{Expression, Formula}
@@ -15,7 +14,6 @@ use Rattle.smv_rules.proofs.PlainLaws.{expression_plain, formula_plain}
 use Rattle.smv_print.specs.Alike.{Reparsed, ReparsedFormula, WroteAlike, WroteAlikeFormula}
 use Rattle.smv_print.specs.declared.lead.Lead.TheVariants as lead
 use Rattle.smv_print.specs.Printing.{bare, claim_inks, claim_printed, printed}
-use Rattle.smv_print.proofs.PrintedDepth.{depth}
 use Rattle.smv_print.proofs.Says.{lays}
 use Rattle.smv_print.proofs.SaysLevels.{loosely}
 use Rattle.smv_print.proofs.RespelledTrees.{respelled}

@@ -1,26 +1,22 @@
 -- Each form of expressions that is printed is said again where its parts are.
-use Rattle.std.proofs.Common.{◌≡◌, ◌≤◌, ◌<◌, ◌-◌, ◌||◌, ◌∙◌, ℕ, ℤ, pos, negsuc, zero, suc, max, Bool, true, false, cond, List, [], ◌∷◌, ◌++◌, Option, Some, None, refl, sym, subst, ap, arith, append_assoc}
+use Rattle.std.proofs.Common.{◌≡◌, ◌≤◌, ◌<◌, ◌-◌, ◌∙◌, ℕ, ℤ, pos, negsuc, suc, max, Bool, true, false, cond, List, [], ◌∷◌, ◌++◌, Some, refl, sym, subst, ap, arith, append_assoc}
 use Rattle.std.specs.Prelude.{codes, neg_ℤ}
 use Rattle.std.specs.Str.{bytes_eq}
 use Rattle.std.proofs.lemmas.Slice.Eq.{bytes_eq-Decides}
 use Rattle.std.proofs.lemmas.List.{append-nil}
 use Rattle.std.proofs.Math.Nat.{min-eq_left}
-use Rattle.smv_tree.specs.declared.expr.Op1.{Op1}
-use Rattle.smv_tree.specs.declared.expr.Op1.TheVariants as op1
 use Rattle.smv_tree.specs.declared.expr.Op2.{Op2}
 use Rattle.smv_tree.specs.declared.expr.Op2.TheVariants as op2
 use Rattle.smv_tree.specs.declared.place.Place.{Place}
-use Rattle.smv_tree.specs.Trees.{Tree, truth, number, word, name, span, choice, one, two, select, widen, const}
+use Rattle.smv_tree.specs.Trees.{Tree, number, name, span, choice, two, select, widen, const}
 use Rattle.smv_token.specs.declared.mark.Mark.{Mark}
 use Rattle.smv_token.specs.declared.mark.Mark.TheVariants as marks
 use Rattle.smv_token.specs.declared.token.Token.{Token}
-use Rattle.smv_token.specs.declared.token.Lexeme.{Lexeme}
 use Rattle.smv_token.specs.declared.token.Lexeme.TheVariants as lexeme
-use Rattle.smv_grammar.specs.Forms.{begins_dots, capped, deepest, integer, is_dots}
-use Rattle.smv_grammar.specs.IsMark.{same_mark}
+use Rattle.smv_grammar.specs.Forms.{capped, deepest, integer, is_dots}
 use Rattle.smv_rules.specs.Keys.{Opener, primary_by, sees}
 use Rattle.smv_rules.specs.Keys as key
-use Rattle.smv_rules.specs.Sorts.{Expression, a_flag, a_place, an_expression, an_integer, some_names}
+use Rattle.smv_rules.specs.Sorts.{an_expression}
 use Rattle.smv_rules.specs.Rules.{Rule, gives, ◌>>=◌}
 use Rattle.smv_rules.specs.Table.{table}
 use Rattle.smv_rules.specs.Expressions.{an_int, applied, constant, deeper, joined, level, mark, more_names, number as a_number, primary, range_from, selecting, widened}
@@ -29,7 +25,7 @@ use Rattle.smv_print.specs.declared.lead.Lead.{Lead}
 use Rattle.smv_print.specs.declared.lead.Lead.TheVariants as lead
 use Rattle.smv_print.specs.Printing.{Ink, around, bare, blank, call, dotted, mark_of_two, numeral, path, spelled, symbol, token, width}
 use Rattle.smv_print.specs.Printing as print
-use Rattle.smv_print.specs.Scannables.{Signed, widest}
+use Rattle.smv_print.specs.Scannables.{Signed}
 use Rattle.smv_print.proofs.PrintedDepth.{IsSpan, depth, depth_in, depth_some, held_less, place_some}
 use Rattle.smv_print.proofs.Says.{NoDots, Says, says_blank, says_deeper, says_ends, says_gives, says_goes_on, says_joined, says_mark, says_more, says_must, says_number, says_part, says_skips, says_stops, says_takes, says_then, sees_alone, sees_mark, stands}
 use Rattle.smv_print.proofs.SaysLevels.{Like, Own, Respelled, at_least, in_place, loosely, says_opener, says_primary}

@@ -1,10 +1,9 @@
 -- The branches of a case that are printed are said again. The printer ends each with a `;`, and the
 -- grammar begins a further one with it.
-use Rattle.std.proofs.Common.{◌≡◌, ◌≤◌, ◌<◌, ◌∙◌, ◌||◌, ℕ, suc, max, Bool, true, false, cond, List, [], ◌∷◌, ◌++◌, Option, Some, None, refl, sym, subst, ap, arith, append_assoc, append-nil}
+use Rattle.std.proofs.Common.{◌≡◌, ◌≤◌, ◌∙◌, ℕ, suc, max, cond, List, [], ◌∷◌, ◌++◌, Option, Some, None, refl, sym, subst, ap, arith, append_assoc, append-nil}
 use Rattle.smv_tree.specs.declared.place.Place.{Place}
 use Rattle.smv_tree.specs.Trees.{Tree, Arms, cases, no_arms, arm, arms}
 use Rattle.smv_token.specs.declared.mark.Mark.TheVariants as marks
-use Rattle.smv_token.specs.declared.token.Token.{Token}
 use Rattle.smv_token.specs.declared.token.Lexeme.TheVariants as lexeme
 use Rattle.smv_grammar.specs.Forms.{deepest}
 use Rattle.smv_grammar.specs.IsMark.{same_mark}
@@ -12,12 +11,12 @@ use Rattle.smv_rules.specs.Keys.{primary_by, sees}
 use Rattle.smv_rules.specs.Keys as key
 use Rattle.smv_rules.specs.Sorts.{Branches, Expression}
 use Rattle.smv_rules.specs.Expressions.{branch, listed_branches, more_branches, no_branches}
-use Rattle.smv_print.specs.Alike.{Alike, nowhere, unplaced, unplaced_arms}
+use Rattle.smv_print.specs.Alike.{nowhere, unplaced, unplaced_arms}
 use Rattle.smv_print.specs.declared.lead.Lead.TheVariants as lead
 use Rattle.smv_print.specs.Printing.{Ink, around, bare, blank, branches, symbol}
 use Rattle.smv_print.specs.Scannables.{ArmsScannable, SomeArms}
 use Rattle.smv_print.proofs.PrintedDepth.{depth, depth_arms, depth_some, held_less}
-use Rattle.smv_print.proofs.Says.{NoDots, Says, Sees, lays_quiet, says_blank, says_deeper, says_ends, says_gives, says_goes_on, says_mark, says_more, says_stops, says_then}
+use Rattle.smv_print.proofs.Says.{NoDots, Says, Sees, says_blank, says_deeper, says_ends, says_gives, says_goes_on, says_mark, says_more, says_stops, says_then}
 use Rattle.smv_print.proofs.SaysLevels.{Like, Respelled, loosely, says_opener}
 use Rattle.smv_print.proofs.Respelled.{primary_own}
 use Rattle.smv_print.proofs.Openings.{Opens, begins_not, opens, opens_more}

@@ -1,9 +1,9 @@
 -- What is printed of an expression is said again, as one alike that is as deep as what is printed.
-use Rattle.std.proofs.Common.{◌≡◌, ◌≤◌, ◌<◌, ◌∙◌, ℕ, ℤ, suc, max, Bool, true, false, cond, nat_lt, List, [], ◌∷◌, ◌++◌, Option, Some, None, refl, sym, subst, ap, arith, append_assoc, append-nil}
+use Rattle.std.proofs.Common.{◌≡◌, ◌≤◌, ◌<◌, ◌∙◌, ℕ, ℤ, suc, max, Bool, true, false, cond, List, [], ◌∷◌, ◌++◌, Option, Some, None, refl, sym, ap, arith, append_assoc, append-nil}
 use Rattle.std.proofs.Math.Nat.{min-eq_left}
 use Rattle.smv_tree.specs.declared.expr.Op1.TheVariants as op1
 use Rattle.smv_tree.specs.declared.place.Place.{Place}
-use Rattle.smv_tree.specs.Trees.{Tree, Trees, Arms, truth, number, word, name, span, set, cases, choice, one, two, select, next, widen, const, count, no_trees, tree, no_arms, arm, trees, arms}
+use Rattle.smv_tree.specs.Trees.{Tree, Trees, Arms, truth, number, word, name, span, set, cases, choice, one, two, select, next, widen, const, count, no_trees, tree, no_arms, arm, trees}
 use Rattle.smv_token.specs.declared.mark.Mark.{Mark}
 use Rattle.smv_token.specs.declared.mark.Mark.TheVariants as marks
 use Rattle.smv_token.specs.declared.token.Token.{Token}
@@ -15,7 +15,6 @@ use Rattle.smv_rules.specs.Keys as key
 use Rattle.smv_rules.specs.Sorts.{Expression, Operands}
 use Rattle.smv_rules.specs.Expressions.{level, more_operands, one_more, operands, prefixed}
 use Rattle.smv_print.specs.Alike.{nowhere, unplaced, unplaced_all}
-use Rattle.smv_print.specs.declared.lead.Lead.{Lead}
 use Rattle.smv_print.specs.declared.lead.Lead.TheVariants as lead
 use Rattle.smv_print.specs.Printing.{Ink, after_comma, bare, blank, integer, is_negation, listed, spelled, symbol, width}
 use Rattle.smv_print.specs.Scannables.{ArmsScannable, EachScannable, Scannables, Signed, SomeTrees, widest}

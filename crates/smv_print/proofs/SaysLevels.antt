@@ -1,5 +1,5 @@
 -- What is said at a level is said at each looser one; expressions in brackets and in their places.
-use Rattle.std.proofs.Common.{◌≡◌, ◌≤◌, ◌<◌, ◌||◌, ◌==◌, ℕ, zero, suc, Bool, true, false, cond, nat_lt, List, [], ◌∷◌, ◌++◌, Option, Some, None, refl, sym, ◌∙◌, subst, ap, arith}
+use Rattle.std.proofs.Common.{◌≡◌, ◌≤◌, ◌||◌, ◌==◌, ℕ, zero, suc, Bool, true, false, cond, nat_lt, List, [], ◌∷◌, ◌++◌, Option, Some, refl, sym, ◌∙◌, subst, ap, arith}
 use Rattle.std.proofs.lemmas.Bool.{ltb-false, ltb-true}
 use Rattle.smv_tree.specs.declared.expr.Op1.TheVariants as op1
 use Rattle.smv_tree.specs.declared.expr.Op2.{Op2}
@@ -7,14 +7,13 @@ use Rattle.smv_tree.specs.declared.expr.Op2.TheVariants as op2
 use Rattle.smv_tree.specs.declared.place.Place.{Place}
 use Rattle.smv_tree.specs.Trees.{Tree, choice, one, two}
 use Rattle.smv_token.specs.declared.mark.Mark.TheVariants as marks
-use Rattle.smv_token.specs.declared.token.Token.{Token}
 use Rattle.smv_token.specs.declared.token.Lexeme.{Lexeme}
 use Rattle.smv_token.specs.declared.token.Lexeme.TheVariants as lexeme
 use Rattle.smv_grammar.specs.Forms.{deepest}
 use Rattle.smv_rules.specs.Keys.{Opener, Primary, opens, round, primary_by, primary_of, sees, with_place}
 use Rattle.smv_rules.specs.Keys as key
 use Rattle.smv_rules.specs.Sorts.{Expression, an_expression}
-use Rattle.smv_rules.specs.Rules.{Rule, gives, too_deep, may, ◌>>=◌}
+use Rattle.smv_rules.specs.Rules.{Rule, gives, may, ◌>>=◌}
 use Rattle.smv_rules.specs.Table.{table}
 use Rattle.smv_rules.specs.Expressions.{bracketed, chosen, deeper, implied, joined, level, level_from, nested, prefixed, primary, primary_from, selected}
 use Rattle.smv_print.specs.Alike.{Alike}

@@ -1,5 +1,5 @@
 -- Whether a formula has a temporal operator, and whether its tokens hold a word that formulas alone have.
-use Rattle.std.proofs.Common.{◌≡◌, ◌||◌, ◌∙◌, ℕ, zero, suc, Bool, true, false, cond, List, [], ◌∷◌, Option, Some, None, refl, sym, subst, ap}
+use Rattle.std.proofs.Common.{◌≡◌, ◌||◌, ◌∙◌, ℕ, Bool, true, false, List, ◌∷◌, Option, Some, None, refl, sym, subst, ap}
 use Rattle.std.specs.List.{list_any}
 use Rattle.smv_tree.specs.declared.formula.FormOp.{FormOp}
 use Rattle.smv_tree.specs.declared.formula.FormOp.TheVariants as op
@@ -9,7 +9,7 @@ use Rattle.smv_token.specs.declared.mark.Mark.TheVariants as marks
 use Rattle.smv_token.specs.declared.token.Token.{Token}
 use Rattle.smv_token.specs.declared.token.Lexeme.{Lexeme}
 use Rattle.smv_token.specs.declared.token.Lexeme.TheVariants as lexeme
-use Rattle.smv_grammar.specs.Formulas.{Role, opens, closes, temporal, plain, before_operand, bracket, of_atom, bracket_if, group, group_on, holds_temporal, is_temporal, joining_by, joining_of, role, role_of, role_of_mark, start_at, start_by}
+use Rattle.smv_grammar.specs.Formulas.{Role, opens, closes, temporal, plain, group, group_on, holds_temporal, is_temporal, joining_by, joining_of, role, role_of, role_of_mark, start_at, start_by}
 use Rattle.smv_grammar.specs.IsMark.{is_mark, same_mark}
 use Rattle.smv_rules.specs.Keys.{is_bracket, prefix_of}
 use Rattle.smv_print.specs.Alike.{AlikeClaims, claim_unplaced}
