@@ -7,10 +7,9 @@ use Rattle.smv_token.specs.Tokens.{scanned}
 use Rattle.smv_grammar.specs.declared.fault.ParseFault.{ParseFault}
 use Rattle.smv_grammar.specs.Faults.{end_of}
 use Rattle.smv_grammar.specs.Forms.{deepest}
-use Rattle.smv_reading.specs.Reading.{Stop}
-use Rattle.smv_text_reading.specs.TextReading.{all_read}
-use Rattle.smv_text_reading.specs.Verdicts.{Answers, Unless, judged_by, verdict}
-use Rattle.smv_text_reading.proofs.Judging.{unless_then}
+use Rattle.smv_rules.specs.Reading.{Stop, all_read}
+use Rattle.smv_rules.specs.Verdicts.{Answers, Unless, judged_by, verdict}
+use Rattle.smv_rules.proofs.Judging.{unless_then}
 use Rattle.smv_rules.specs.Rules.{Rule}
 use Rattle.smv_rules.specs.Running.{run}
 use Rattle.smv_rules.specs.Sorts.{Gift, Sort}

@@ -2,8 +2,7 @@
 use Rattle.std.proofs.Common.{◌≡◌, ◌<◌, ◌≤◌, ℕ, List, Result, Ok, Err, length}
 use Rattle.smv_token.specs.declared.token.Token.{Token}
 use Rattle.smv_grammar.specs.Forms.{deepest}
-use Rattle.smv_reading.specs.Reading.{wrong, deep}
-use Rattle.smv_text_reading.specs.TextReading.{all_read}
+use Rattle.smv_rules.specs.Reading.{wrong, deep, all_read}
 use Rattle.smv_rules.specs.Expressions.{expr}
 use Rattle.smv_rules.specs.Programs.{program}
 use Rattle.smv_rules.specs.Rules.{Rule}
@@ -11,7 +10,7 @@ use Rattle.smv_rules.specs.Running.{run}
 use Rattle.smv_rules.specs.Sorts.{Gift, Sort, a_formula, an_expression, some_bodies}
 use Rattle.smv_rules.specs.Texts.{IsAll, claim_of, formula, tree_of}
 use Rattle.smv_rules.specs.Follows.{by_token, Leads, anywhere, at_depth}
-use Rattle.smv_text_reading.proofs.Deciding.{DecidesAll}
+use Rattle.smv_rules.proofs.Deciding.{DecidesAll}
 use Rattle.smv_rules.proofs.Begun.{Late, expr_late, formula_late}
 use Rattle.smv_rules.proofs.Verdicts.{decides}
 use Rattle.smv_parse.specs.TextReading.{expression_of, formula_of, modules_of, viewed}

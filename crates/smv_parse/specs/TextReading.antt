@@ -4,8 +4,7 @@ use Rattle.smv_tree.specs.Models.{Body, Claim}
 use Rattle.smv_tree.specs.Trees.{Tree}
 use Rattle.smv_token.specs.declared.token.Token.{Token}
 use Rattle.smv_grammar.specs.Forms.{deepest}
-use Rattle.smv_reading.specs.Reading.{Stop}
-use Rattle.smv_text_reading.specs.TextReading.{all_read}
+use Rattle.smv_rules.specs.Reading.{Stop, all_read}
 use Rattle.smv_rules.specs.Expressions.{expr}
 use Rattle.smv_rules.specs.Programs.{program}
 use Rattle.smv_rules.specs.Running.{run}

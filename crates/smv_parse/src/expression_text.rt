@@ -1,14 +1,14 @@
 ghost use Rattle.std.specs.Prelude.{IfErr, IfOk, Ok, Err};
 ghost use Rattle.smv_tree.specs.Trees.{Tree, expr_tree};
-ghost use Rattle.smv_reading.specs.Halts.{Reads};
-ghost use Rattle.smv_text_reading.specs.Verdicts.{Answers, Unless, judged_by, verdict};
+ghost use Rattle.smv_reader.specs.Halts.{Reads};
+ghost use Rattle.smv_rules.specs.Verdicts.{Answers, Unless, judged_by, verdict};
 ghost use Rattle.smv_rules.specs.Texts.{ExplainsExpr, SpellsExpr};
 ghost use Rattle.smv_parse.specs.TextReading.{expression_of};
 
 use crate::faults::{fault_of, halt_fault};
 use smv_grammar::{DEEPEST, LOOSEST, ParseFault};
 use smv_reader::Reader;
-use smv_reading::Halt;
+use smv_reader::Halt;
 use smv_token::{ScannedText, Token, scan};
 use smv_tree::Expr;
 use std::alloc::{AllocError, Global};

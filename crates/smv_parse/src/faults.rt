@@ -1,15 +1,16 @@
 ghost use Rattle.std.specs.Prelude.{◌≡◌, ◌<◌, length};
 ghost use Rattle.smv_grammar.specs.Faults.{fault_of, left_out_fault, place_at};
-ghost use Rattle.smv_text_reading.specs.Verdicts.{HaltFault, StopsWithin, Unless, end_fault};
+ghost use Rattle.smv_parse.specs.Halting.{HaltFault, StopsWithin};
+ghost use Rattle.smv_rules.specs.Verdicts.{Unless, end_fault};
 
 use smv_grammar::ParseFault;
-use smv_reading::Halt;
+use smv_reader::Halt;
 use smv_token::{Flaw, LeftOut, ScannedText, Token};
 use smv_tree::{Name, Place};
 use std::alloc::{AllocError, Global};
 
 /// The fault that a left-out word is.
-#[tactic(auto, using(smv_reading::proofs::DeepFronts::text_within))]
+#[tactic(auto, using(crate::proofs::Places::text_within))]
 fn left_out_fault(alloc: Global, place: Place, word: LeftOut) -> ParseFault
     ensures { Unless result (result ≡ left_out_fault place word) }
 {
@@ -43,7 +44,7 @@ pub fn fault_of(alloc: Global, place: Place, flaw: Flaw) -> ParseFault
 }
 
 /// The place of a token by its number.
-#[tactic(auto, using(smv_reading::proofs::DeepFronts::place_of))]
+#[tactic(auto, using(crate::proofs::Places::place_of))]
 fn place_at(tokens: &[Token], index: usize) -> Place
     requires { index < length tokens.now }
     ensures { result ≡ place_at tokens.now index }

@@ -1,20 +1,20 @@
 ghost use Rattle.std.specs.Prelude.{IfErr, IfOk, Ok, Err};
 ghost use Rattle.smv_tree.specs.Models.{Claim, formula_claim};
-ghost use Rattle.smv_reading.specs.Halts.{Reads};
-ghost use Rattle.smv_text_reading.specs.Verdicts.{Answers, Unless, judged_by, verdict};
+ghost use Rattle.smv_reader.specs.Halts.{Reads};
+ghost use Rattle.smv_rules.specs.Verdicts.{Answers, Unless, judged_by, verdict};
 ghost use Rattle.smv_rules.specs.Texts.{ExplainsFormula, SpellsFormulaText};
 ghost use Rattle.smv_parse.specs.TextReading.{formula_of};
 
 use crate::faults::{fault_of, halt_fault};
 use smv_grammar::{DEEPEST, OUTERMOST, ParseFault};
 use smv_reader::{Reader, group_flags};
-use smv_reading::Halt;
+use smv_reader::Halt;
 use smv_token::{ScannedText, Token, scan};
 use smv_tree::Formula;
 use std::alloc::{AllocError, Global};
 
 /// The formula of all tokens.
-#[tactic(auto, using(smv_text_reading::proofs::FormulaRests::all_flagged), unfolding(crate::specs::TextReading::formula_of))]
+#[tactic(auto, using(smv_reader::proofs::GroupFlags::all_flagged), unfolding(crate::specs::TextReading::formula_of))]
 fn whole_formula(alloc: Global, tokens: &[Token]) -> Result<Formula, Halt>
     ensures { Reads formula_claim result (formula_of tokens.now) }
 {

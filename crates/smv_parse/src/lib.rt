@@ -13,5 +13,5 @@ pub use first_form::is_first_form;
 pub use formula_text::parse_formula;
 pub use program_text::parse_model;
 pub use smv_grammar::ParseFault;
-pub use smv_text_reading::one_spelling;
+pub use smv_rules::one_spelling;
 pub use smv_token::{LeftOut, Mark};

@@ -1,20 +1,20 @@
 ghost use Rattle.std.specs.Prelude.{◌≤◌, IfErr, IfOk, List, Ok, Err, length};
 ghost use Rattle.smv_tree.specs.Models.{Body, bodies};
-ghost use Rattle.smv_reading.specs.Halts.{Reads};
-ghost use Rattle.smv_text_reading.specs.Verdicts.{Answers, Unless, judged_by, verdict};
+ghost use Rattle.smv_reader.specs.Halts.{Reads};
+ghost use Rattle.smv_rules.specs.Verdicts.{Answers, Unless, judged_by, verdict};
 ghost use Rattle.smv_rules.specs.Texts.{ExplainsProgram, SpellsProgram};
 ghost use Rattle.smv_parse.specs.TextReading.{modules_of};
 
 use crate::faults::{fault_of, halt_fault};
 use smv_grammar::{DEEPEST, ParseFault};
 use smv_reader::{Reader, group_flags};
-use smv_reading::Halt;
+use smv_reader::Halt;
 use smv_token::{ScannedText, Token, scan};
 use smv_tree::Program;
 use std::alloc::{AllocError, Global};
 
 /// The program of all tokens.
-#[tactic(auto, using(smv_text_reading::proofs::FormulaRests::all_flagged), unfolding(crate::specs::TextReading::modules_of))]
+#[tactic(auto, using(smv_reader::proofs::GroupFlags::all_flagged), unfolding(crate::specs::TextReading::modules_of))]
 fn whole_program(alloc: Global, tokens: &[Token]) -> Result<Program, Halt>
     ensures { Reads bodies result (modules_of tokens.now) }
 {

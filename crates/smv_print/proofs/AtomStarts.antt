@@ -22,7 +22,8 @@ use Rattle.smv_rules.specs.Follows as follows
 use Rattle.smv_print.specs.Scannables.{AllScannable}
 use Rattle.smv_print.proofs.Says.{past}
 use Rattle.smv_print.proofs.Fits.{Fits}
-use Rattle.smv_print.proofs.Giving.{Spans, mark_is, not_first, placed, primary_role, primary_seen, there}
+use Rattle.smv_rules.proofs.Firsts.{is_mark_true}
+use Rattle.smv_print.proofs.Giving.{Spans, not_first, placed, primary_role, primary_seen, there}
 use Rattle.smv_print.proofs.GivenParts.{level_gives}
 use Rattle.smv_print.proofs.Gave.{gave, not_clean}
 use Rattle.smv_print.proofs.ClaimRules.{Inverse, inverse}
@@ -86,11 +87,11 @@ level_starts n l tighter more ts rest x h a = by_test (l == 1) (l == 2) (l == 4)
   by_test : (b c d e f : Bool) → Follows follows.plain n an_expression (cond b (tighter >>= selected) (cond c (may an_expression (key.mark marks.Bang) (λ p. prefixed p op1.Not 2) tighter) (cond d (may an_expression key.minus (λ p. prefixed p op1.Neg 4) tighter) (cond e (tighter >>= chosen) (cond f (tighter >>= implied) (tighter >>= joined l tighter)))))) ts rest x → Start ts
   by_test true c d e f h = let k = inverse h in more ts k.between k.given k.before a
   by_test false true d e f h = elim (inverse h) [
-    | inl k ↦ let i = mark_is marks.Bang k.first.lexeme (there (is_mark marks.Bang k.first.lexeme) k.first.place k.load k.seen) in mark_start marks.Bang k.first k.others ts k.is i refl (bang_operand k.first.lexeme i)
+    | inl k ↦ let i = is_mark_true marks.Bang k.first.lexeme (there (is_mark marks.Bang k.first.lexeme) k.first.place k.load k.seen) in mark_start marks.Bang k.first k.others ts k.is i refl (bang_operand k.first.lexeme i)
     | inr k ↦ more ts rest x k.1 a
   ]
   by_test false false true e f h = elim (inverse h) [
-    | inl k ↦ let i = mark_is marks.Minus k.first.lexeme (not_first (begins_range k.others) (is_mark marks.Minus k.first.lexeme) k.first.place k.load k.seen) in mark_start marks.Minus k.first k.others ts k.is i refl (minus_operand k.first.lexeme i)
+    | inl k ↦ let i = is_mark_true marks.Minus k.first.lexeme (not_first (begins_range k.others) (is_mark marks.Minus k.first.lexeme) k.first.place k.load k.seen) in mark_start marks.Minus k.first k.others ts k.is i refl (minus_operand k.first.lexeme i)
     | inr k ↦ more ts rest x k.1 a
   ]
   by_test false false false true f h = let k = inverse h in more ts k.between k.given k.before a

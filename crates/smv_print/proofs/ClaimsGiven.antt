@@ -17,12 +17,13 @@ use Rattle.smv_rules.specs.Table.{table}
 use Rattle.smv_rules.specs.Expressions.{mark}
 use Rattle.smv_rules.specs.Formulas.{an_atom, deeper, formula_level, implied, joined, opened, operand, side}
 use Rattle.smv_rules.specs.Follows.{Follows, plain}
+use Rattle.smv_rules.proofs.Firsts.{is_mark_true}
 use Rattle.smv_rules.proofs.Inverting.{Had}
 use Rattle.smv_print.specs.declared.lead.Lead.TheVariants as lead
 use Rattle.smv_print.specs.Scannables.{AllScannable, ClaimScannable}
 use Rattle.smv_print.proofs.Says.{past}
 use Rattle.smv_print.proofs.Fits.{Fits}
-use Rattle.smv_print.proofs.Giving.{Spans, levels_of, mark_is, stepped, there}
+use Rattle.smv_print.proofs.Giving.{Spans, levels_of, stepped, there}
 use Rattle.smv_print.proofs.GivenParts.{level_gives}
 use Rattle.smv_print.proofs.Gave.{gave}
 use Rattle.smv_print.proofs.Timed.{bracket_opens, is_timed, joins, no_prefix, prefixes, timed, word_step}
@@ -42,7 +43,7 @@ shut t ts e = ap (λ r. list_any (λ t. is_temporal (role t)) (group_on r 0 t (�
 
 pub closing : (t : Token) (us : List Token) (p : Place) → sees (key.mark marks.CloseRound) t us ≡ Some p → role t ≡ closes
 unfolding sees
-closing t us p e = ap role_of (mark_is marks.CloseRound t.lexeme (there (is_mark marks.CloseRound t.lexeme) t.place p e))
+closing t us p e = ap role_of (is_mark_true marks.CloseRound t.lexeme (there (is_mark marks.CloseRound t.lexeme) t.place p e))
 
 -- an atom
 clean : (ts : List Token) → Unseen key.before_formula ts → begins_with marks.Bang ts ≡ false

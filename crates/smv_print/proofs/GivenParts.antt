@@ -100,7 +100,7 @@ Good l = (c : Bool) (i : ℕ) (P : ℕ → Expression → Type 0) → ((x : Expr
 joined_fits : (c : Bool) (l : ℕ) (p : Place) (o : Op2) (a b : Expression) → OwnOperator l o → Fits c l a → Fits false (l - 1) b → max a.depth b.depth < deepest → Fits c l (record { tree = two p o a.tree b.tree; depth = suc (max a.depth b.depth); bare = false })
 unfolding Scannables depth
 joined_fits c l p o a b own f g w =
-    let same = own.0 p in
+    let same = own.0 in
     fits_plain c l (two p o a.tree b.tree) (suc (max a.depth b.depth)) (f.well, g.well) (omega (arith, same)) refl (λ k e.
     let P : ℕ → Type 0 = λ i. depth_in k (left_level i) a.tree ≤ a.depth in
     let Q : ℕ → Type 0 = λ i. depth_in lead.Free (right_level i) b.tree ≤ b.depth in

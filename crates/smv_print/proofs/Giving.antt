@@ -1,5 +1,4 @@
 -- What holds of what a rule gives, by the rule's form; and how many round brackets its tokens close.
-use denote.Enum.Bare.{same_true}
 use Rattle.std.proofs.Common.{◌≡◌, ◌≤◌, ◌||◌, ◌∙◌, ◌-◌, ℕ, zero, suc, Bool, true, false, cond, List, ◌∷◌, Option, Some, None, refl, sym, subst, ap}
 use Rattle.std.specs.Prelude.{◌==◌, codes}
 use Rattle.std.specs.List.{list_any}
@@ -11,26 +10,26 @@ use Rattle.smv_tree.specs.declared.expr.Op1.{Op1}
 use Rattle.smv_tree.specs.declared.expr.Op1.TheVariants as op1
 use Rattle.smv_tree.specs.declared.expr.Op2.{Op2}
 use Rattle.smv_tree.specs.declared.place.Place.{Place}
-use Rattle.smv_token.specs.contracts.mark.Mark.{the_type}
 use Rattle.smv_token.specs.declared.mark.Mark.{Mark}
 use Rattle.smv_token.specs.declared.mark.Mark.TheVariants as marks
 use Rattle.smv_token.specs.declared.token.Token.{Token}
 use Rattle.smv_token.specs.declared.token.Lexeme.{Lexeme}
 use Rattle.smv_token.specs.declared.token.Lexeme.TheVariants as lexeme
-use Rattle.smv_grammar.specs.Forms.{begins_range, infix_of, left_level, level_of, tail_by}
+use Rattle.smv_grammar.specs.Forms.{begins_range, infix_of, left_level, operator_level}
 use Rattle.smv_grammar.specs.Formulas.{Role, opens, closes, temporal, plain, group, group_on, holds_temporal, is_temporal, role, role_of, role_of_mark}
-use Rattle.smv_grammar.specs.IsMark.{is_mark, same_mark}
+use Rattle.smv_grammar.specs.IsMark.{is_mark}
 use Rattle.smv_rules.specs.Keys.{Key, Payload, Primary, begins_with, by_mark, if_there, mark_of, name_of, number_of, of_level, primary_by, primary_of, sees, with_place}
 use Rattle.smv_rules.specs.Keys as key
 use Rattle.smv_rules.specs.Sorts.{Gift, Sort, an_expression, some_branches, some_names, some_operands}
 use Rattle.smv_rules.specs.Rules.{Part, Rule, gives, too_deep, must, may, part, then, again, expression, formula, inside, bits}
+use Rattle.smv_rules.proofs.Firsts.{is_mark_true}
 use Rattle.smv_print.specs.Printing.{mark_of_two, path_head, right_level}
 use Rattle.smv_print.specs.Scannables.{OwnName, OwnPath, OwnWord, Scannable, greatest}
 use Rattle.smv_print.proofs.Fits.{AllFit, ArmsFit, Fits}
 
 -- what a token tells where it is seen, and the text begins with no `!` where the flag says so
 abbrev pub OwnOperator : ℕ → Op2 → Type 0
-OwnOperator l o = ((p : Place) → level_of (tail_by p (mark_of_two o)) ≡ l) × (left_level l ≡ l) × (right_level l ≡ l - 1)
+OwnOperator l o = (operator_level (mark_of_two o) ≡ l) × (left_level l ≡ l) × (right_level l ≡ l - 1)
 
 abbrev pub Called : Op1 → Type 0
 Called op1.Not = ⊥
@@ -162,19 +161,12 @@ infix_marks marks.Concat = refl
 infix_marks m = refl
 
 abbrev Levelled : Option (ℕ × Op2) → Type 0
-Levelled None = ((p : Place) → zero ≡ zero) × (zero ≡ zero) × (zero ≡ zero)
+Levelled None = (zero ≡ zero) × (zero ≡ zero) × (zero ≡ zero)
 Levelled (Some i) = OwnOperator i.0 i.1
 
 levelled : (m : Mark) → Levelled (infix_of m)
-levelled marks.Concat = ((λ p. refl), refl, refl)
-levelled m = ((λ p. refl), refl, refl)
-
-pub mark_is : (m : Mark) (w : Lexeme) → is_mark m w ≡ true → w ≡ lexeme.Mark m
-unfolding same_mark
-mark_is m (lexeme.Mark n) e = ap lexeme.Mark (sym (same_true the_type tt m n e))
-mark_is m (lexeme.Name n) e = absurd (cc)
-mark_is m (lexeme.Number n) e = absurd (cc)
-mark_is m (lexeme.Word w) e = absurd (cc)
+levelled marks.Concat = (refl, refl, refl)
+levelled m = (refl, refl, refl)
 
 pub there : {X : Type 0} (b : Bool) (x y : X) → if_there b x ≡ Some y → b ≡ true
 there true x y e = refl
@@ -194,7 +186,7 @@ placed (Some x) p y e = ap first_of e
 
 -- what a token is to a group
 mark_role : (m : Mark) (w : Lexeme) → is_mark m w ≡ true → role_of w ≡ role_of_mark m
-mark_role m w e = ap role_of (mark_is m w e)
+mark_role m w e = ap role_of (is_mark_true m w e)
 
 pub primary_seen : (w : Lexeme) (o : Primary) → primary_of w ≡ Some o → role_of w ≡ primary_role o
 primary_seen (lexeme.Mark m) o e = primary_marks m ∙ ap (λ q. role_or (role_of_mark m) primary_role q) e

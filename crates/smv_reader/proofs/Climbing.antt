@@ -13,12 +13,11 @@ use Rattle.smv_token.specs.declared.token.Lexeme.{Lexeme}
 use Rattle.smv_token.specs.declared.token.Lexeme.TheVariants as lexeme
 use Rattle.smv_grammar.specs.Forms.{infix_of, level_of}
 use Rattle.smv_grammar.specs.IsMark.{is_mark, same_mark}
-use Rattle.smv_reading.specs.declared.halt.Halt.{Halt}
-use Rattle.smv_reading.specs.declared.halt.Halt.TheVariants as halts
-use Rattle.smv_reading.specs.Halts.{Halts}
-use Rattle.smv_reading.specs.Reading.{Stop, wrong, deep, ◌>>=◌}
-use Rattle.smv_text_reading.specs.RuleReading.{Got}
-use Rattle.smv_text_reading.proofs.Pieces.{ReachedTo}
+use Rattle.smv_reader.specs.declared.halt.Halt.{Halt}
+use Rattle.smv_reader.specs.declared.halt.Halt.TheVariants as halts
+use Rattle.smv_reader.specs.Halts.{Halts}
+use Rattle.smv_rules.specs.Reading.{Stop, wrong, deep, ◌>>=◌, Got}
+use Rattle.smv_rules.proofs.Outcomes.{ReachedTo}
 use Rattle.smv_rules.specs.Keys.{Key, Payload, Unseen, by_mark, if_there, mark_of, of_level, sees, with_place}
 use Rattle.smv_rules.specs.Keys as key
 use Rattle.smv_rules.specs.Rules.{Rule, gives, may, ◌>>=◌ as ◌>>>◌}

@@ -1,12 +1,11 @@
 -- The flags of tokens are those of what is left of them.
 use Rattle.std.proofs.Common.{◌≡◌, ℕ, Bool, List, [], ◌∷◌, Option, Some, None, Ok, Err, refl, subst}
 use Rattle.smv_token.specs.declared.token.Token.{Token}
-use Rattle.smv_grammar.proofs.Rests.{Rest, rest_more}
-use Rattle.smv_reading.specs.Reading.{◌>>=◌}
-use Rattle.smv_text_reading.specs.FormulaReading.{Flagged}
-use Rattle.smv_text_reading.specs.RuleReading.{Got}
-use Rattle.smv_text_reading.proofs.FormulaRests.{flagged_rest}
-use Rattle.smv_text_reading.proofs.Pieces.{TellsOf}
+use Rattle.smv_rules.proofs.Rests.{Rest, rest_more}
+use Rattle.smv_rules.specs.Reading.{◌>>=◌, Got}
+use Rattle.smv_reader.specs.Flags.{Flagged}
+use Rattle.smv_reader.proofs.GroupFlags.{flagged_rest}
+use Rattle.smv_rules.proofs.Outcomes.{TellsOf}
 use Rattle.smv_rules.specs.Keys.{Key, Payload, sees}
 use Rattle.smv_rules.specs.Rules.{Rule, again}
 use Rattle.smv_rules.specs.Running.{if_seen, run}

@@ -4,7 +4,7 @@ use Rattle.std.proofs.lemmas.Bool.Decides.{eqb_tells}
 use Rattle.smv_tree.specs.declared.formula.FormOp.{FormOp}
 use Rattle.smv_token.specs.declared.token.Token.{Token}
 use Rattle.smv_grammar.specs.Formulas.{joining, of_atom, outermost, start_of}
-use Rattle.smv_reading.specs.Reading.{◌>>=◌}
+use Rattle.smv_rules.specs.Reading.{◌>>=◌}
 use Rattle.smv_rules.specs.Formulas.{an_atom, connected, enclosed, formula_level, implied, joined, operand, prefixed, side}
 use Rattle.smv_rules.specs.Keys.{if_there, is_bracket, of_level, prefix_of, sees}
 use Rattle.smv_rules.specs.Keys as key

@@ -8,12 +8,11 @@ use Rattle.smv_token.specs.declared.mark.Mark.TheVariants as marks
 use Rattle.smv_token.specs.declared.token.Token.{Token}
 use Rattle.smv_token.specs.declared.token.Lexeme.{Lexeme}
 use Rattle.smv_token.specs.declared.token.Lexeme.TheVariants as lexeme
-use Rattle.smv_reading.specs.declared.halt.Halt.{Halt}
-use Rattle.smv_reading.specs.declared.halt.Halt.TheVariants as halts
-use Rattle.smv_reading.specs.Halts.{Halts}
-use Rattle.smv_reading.specs.Reading.{Stop, wrong, deep, ◌>>=◌}
-use Rattle.smv_text_reading.specs.RuleReading.{Got}
-use Rattle.smv_text_reading.proofs.Pieces.{ReachedTo}
+use Rattle.smv_reader.specs.declared.halt.Halt.{Halt}
+use Rattle.smv_reader.specs.declared.halt.Halt.TheVariants as halts
+use Rattle.smv_reader.specs.Halts.{Halts}
+use Rattle.smv_rules.specs.Reading.{Stop, wrong, deep, ◌>>=◌, Got}
+use Rattle.smv_rules.proofs.Outcomes.{ReachedTo}
 use Rattle.smv_rules.specs.Keys.{mark_of}
 use Rattle.smv_rules.specs.Rules.{Rule, too_deep, part, bits}
 use Rattle.smv_rules.specs.Running.{run}

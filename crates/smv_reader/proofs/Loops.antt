@@ -1,12 +1,11 @@
 -- What a loop over what comes again rests on: one turn of it.
 use Rattle.std.proofs.Common.{◌≡◌, ◌<◌, ℕ, suc, List, [], ◌∷◌, Option, Some, None, Result, Ok, Err, refl, sym, ◌∙◌, ap, subst, length, arith}
 use Rattle.smv_token.specs.declared.token.Token.{Token}
-use Rattle.smv_reading.specs.declared.halt.Halt.{Halt}
-use Rattle.smv_reading.specs.declared.halt.Halt.TheVariants as halts
-use Rattle.smv_reading.specs.Halts.{Halts}
-use Rattle.smv_reading.specs.Reading.{Stop, wrong, deep, ◌>>=◌}
-use Rattle.smv_text_reading.specs.RuleReading.{Got}
-use Rattle.smv_text_reading.proofs.Pieces.{ReachedTo}
+use Rattle.smv_reader.specs.declared.halt.Halt.{Halt}
+use Rattle.smv_reader.specs.declared.halt.Halt.TheVariants as halts
+use Rattle.smv_reader.specs.Halts.{Halts}
+use Rattle.smv_rules.specs.Reading.{Stop, wrong, deep, ◌>>=◌, Got}
+use Rattle.smv_rules.proofs.Outcomes.{ReachedTo}
 use Rattle.smv_rules.specs.Keys.{Key, Payload, sees}
 use Rattle.smv_rules.specs.Rules.{Rule, again}
 use Rattle.smv_rules.specs.Running.{if_seen, run}

@@ -3,7 +3,7 @@ use Rattle.std.proofs.Common.{◌≡◌, ℕ, Bool, true, false, List, [], ◌�
 use Rattle.smv_tree.specs.declared.place.Place.{Place}
 use Rattle.smv_token.specs.declared.mark.Mark.{Mark}
 use Rattle.smv_token.specs.declared.token.Token.{Token}
-use Rattle.smv_text_reading.specs.RuleReading.{Got}
+use Rattle.smv_rules.specs.Reading.{Got}
 use Rattle.smv_rules.specs.Expressions.{optional}
 use Rattle.smv_rules.specs.Keys.{sees}
 use Rattle.smv_rules.specs.Keys as key

@@ -9,10 +9,9 @@ use Rattle.smv_token.specs.declared.mark.Mark.{Mark}
 use Rattle.smv_token.specs.declared.mark.Mark.TheVariants as marks
 use Rattle.smv_token.specs.declared.token.Token.{Token}
 use Rattle.smv_grammar.specs.Forms.{begins_range, infix_of, level_of}
-use Rattle.smv_reading.specs.declared.halt.Halt.{Halt}
-use Rattle.smv_reading.specs.Halts.{Halts}
-use Rattle.smv_reading.specs.Reading.{Stop, wrong, ◌>>=◌}
-use Rattle.smv_text_reading.specs.RuleReading.{Got}
+use Rattle.smv_reader.specs.declared.halt.Halt.{Halt}
+use Rattle.smv_reader.specs.Halts.{Halts}
+use Rattle.smv_rules.specs.Reading.{Stop, wrong, ◌>>=◌, Got}
 use Rattle.smv_rules.specs.Keys.{mark_of}
 use Rattle.smv_rules.specs.Rules.{Rule, gives, too_deep, part, bits}
 use Rattle.smv_rules.specs.Running.{run}

@@ -1,3 +1,5 @@
+pub mod Halts
+pub mod Flags
 pub mod Turns
 pub mod Views
 pub mod Climbing

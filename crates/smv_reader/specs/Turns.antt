@@ -2,7 +2,7 @@
 use Rattle.std.specs.Prelude.{ℕ, List, [], ◌∷◌, Option, Some, None, Result, Ok}
 use denote.Ref.{Bor}
 use Rattle.smv_token.specs.declared.token.Token.{Token}
-use Rattle.smv_reading.specs.Reading.{Stop, ◌>>=◌}
+use Rattle.smv_rules.specs.Reading.{Stop, ◌>>=◌}
 use Rattle.smv_rules.specs.Keys.{Key, Payload, sees}
 use Rattle.smv_rules.specs.Rules.{Rule, again}
 use Rattle.smv_rules.specs.Running.{if_seen, run}

@@ -1,10 +1,9 @@
 ghost use Rattle.std.specs.Prelude.{◌≡◌, ◌<◌, ◌≤◌, ◌∷◌, []};
 ghost use Rattle.smv_tree.specs.Trees.{expr_tree, next, one};
-ghost use Rattle.smv_reading.specs.Halts.{Halts, Reads};
+ghost use Rattle.smv_reader.specs.Halts.{Halts, Reads};
 ghost use Rattle.smv_rules.specs.Expressions.{applied, branch, choosing, counted, enclosed, expr, implying, level, listed, listed_branches, more_branches, more_operands, nested, no_branches, opened, operands, prefixed, primary, primary_from, side, widened};
-ghost use Rattle.smv_rules.specs.Keys.{begins_with};
+ghost use Rattle.smv_rules.specs.Keys.{begins_with, operand};
 ghost use Rattle.smv_rules.specs.Rules.{bits, inside, must, part, too_deep};
-ghost use Rattle.smv_rules.specs.Keys.{operand};
 ghost use Rattle.smv_rules.specs.Sorts.{an_expression};
 ghost use Rattle.smv_rules.specs.Running.{run};
 ghost use Rattle.smv_reader.specs.Climbing.{Leads, closed_at, so_far, up};
@@ -16,7 +15,7 @@ use crate::operators::{infix_at, next_level, prefix_at};
 use crate::parsed::{Parsed, ParsedCase, ParsedList};
 use crate::reader::Reader;
 use smv_grammar::{LOOSEST, capped};
-use smv_reading::Halt;
+use crate::halt::Halt;
 use smv_token::{Lexeme, Mark, Token};
 use smv_tree::{Expr, Op1, Op2, Place};
 

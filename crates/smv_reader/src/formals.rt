@@ -1,12 +1,12 @@
 ghost use Rattle.std.specs.Prelude.{◌∷◌, [], map};
 ghost use Rattle.smv_tree.specs.Models.{formal_of};
-ghost use Rattle.smv_reading.specs.Halts.{Reads};
+ghost use Rattle.smv_reader.specs.Halts.{Reads};
 ghost use Rattle.smv_rules.specs.Programs.{formals, more_formals, some_names};
 ghost use Rattle.smv_rules.specs.Running.{run};
 ghost use Rattle.smv_reader.specs.Turns.{seen_rest, turn};
 
 use crate::reader::Reader;
-use smv_reading::Halt;
+use crate::halt::Halt;
 use smv_token::{Mark, Token};
 use smv_tree::{Param, Params};
 

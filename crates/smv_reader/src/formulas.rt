@@ -1,8 +1,8 @@
 ghost use Rattle.std.specs.Prelude.{◌≡◌, ◌-◌, ◌≤◌, max, IfSome};
 ghost use Rattle.smv_tree.specs.Models.{both, formula_claim};
 ghost use Rattle.smv_grammar.specs.Formulas.{joining, outermost};
-ghost use Rattle.smv_reading.specs.Halts.{Halts, Reads};
-ghost use Rattle.smv_text_reading.specs.FormulaReading.{Flagged};
+ghost use Rattle.smv_reader.specs.Halts.{Halts, Reads};
+ghost use Rattle.smv_reader.specs.Flags.{Flagged};
 ghost use Rattle.smv_rules.specs.Formulas.{an_atom, connected, deeper, enclosed, formula_level, implied, joined, opened, operand, prefixed, side};
 ghost use Rattle.smv_rules.specs.Keys.{formula_operand, of_level};
 ghost use Rattle.smv_rules.specs.Rules.{must, too_deep};
@@ -15,7 +15,7 @@ use crate::groups::{Prefix, Start, start_of};
 use crate::opening::begins_operand;
 use crate::reader::Reader;
 use smv_grammar::{ATOMIC, DEEPEST, OUTERMOST, joining_by};
-use smv_reading::Halt;
+use crate::halt::Halt;
 use smv_token::{Lexeme, Mark, Token};
 use smv_tree::{FormOp, Formula};
 
@@ -199,7 +199,7 @@ impl Reader {
 
     /// An operand of a formula.
     #[cycle(formula)]
-    #[tactic(auto, using(smv_text_reading::proofs::FormulaRests::flagged_behind), unfolding(smv_rules::specs::Running::run, smv_rules::specs::Keys::sees))]
+    #[tactic(auto, using(crate::proofs::GroupFlags::flagged_behind), unfolding(smv_rules::specs::Running::run, smv_rules::specs::Keys::sees))]
     fn formula_operand<'a>(
         self,
         flags: &[bool],
@@ -240,7 +240,7 @@ impl Reader {
 
     /// One more operator of a level and its right operand, if such an operator stands there.
     #[cycle(formula)]
-    #[tactic(auto, using(smv_text_reading::proofs::FormulaRests::flagged_behind), unfolding(smv_rules::specs::Running::run, smv_rules::specs::Keys::sees, crate::specs::Turns::turn))]
+    #[tactic(auto, using(crate::proofs::GroupFlags::flagged_behind), unfolding(smv_rules::specs::Running::run, smv_rules::specs::Keys::sees, crate::specs::Turns::turn))]
     fn next_connected<'a>(
         self,
         flags: &[bool],
@@ -308,7 +308,7 @@ impl Reader {
 
     /// A formula with an arrow and its right side behind it, if an arrow stands there.
     #[cycle(formula)]
-    #[tactic(auto, using(smv_text_reading::proofs::FormulaRests::flagged_behind), unfolding(smv_rules::specs::Running::run, smv_rules::specs::Keys::sees))]
+    #[tactic(auto, using(crate::proofs::GroupFlags::flagged_behind), unfolding(smv_rules::specs::Running::run, smv_rules::specs::Keys::sees))]
     fn implied_formula<'a>(
         self,
         flags: &[bool],

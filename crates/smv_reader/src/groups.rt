@@ -1,6 +1,6 @@
 ghost use Rattle.std.specs.Prelude.{◌≡◌, ◌<◌, IfOk, IfSome};
 ghost use Rattle.smv_grammar.specs.Formulas.{bracket_if, holds_temporal, role, start_of};
-ghost use Rattle.smv_text_reading.specs.FormulaReading.{Flagged, closers_on, closes_late, group_flags};
+ghost use Rattle.smv_reader.specs.Flags.{Flagged, closers_on, closes_late, group_flags};
 ghost use Rattle.smv_reader.specs.FormulaViews.{start_seen};
 
 use smv_token::{Lexeme, Mark, Token};
@@ -50,7 +50,7 @@ fn holds_word(closers: Option<usize>) -> bool
 
 /// For each number of tokens, whether the last so many begin a group that holds a word that formulas
 /// alone have.
-#[tactic(auto, using(smv_text_reading::proofs::FormulaRests::flags_none, smv_text_reading::proofs::FormulaRests::closers_none, smv_text_reading::proofs::FormulaRests::flags_more, smv_text_reading::proofs::FormulaRests::closers_more, smv_text_reading::proofs::FormulaRests::small_more))]
+#[tactic(auto, using(crate::proofs::GroupFlags::flags_none, crate::proofs::GroupFlags::closers_none, crate::proofs::GroupFlags::flags_more, crate::proofs::GroupFlags::closers_more, crate::proofs::GroupFlags::small_more))]
 pub fn group_flags(alloc: Global, tokens: &[Token]) -> Result<Vec<bool>, AllocError>
     ensures { IfOk result (λ v. v.items ≡ group_flags tokens.now) }
 {
@@ -67,7 +67,7 @@ pub fn group_flags(alloc: Global, tokens: &[Token]) -> Result<Vec<bool>, AllocEr
 }
 
 /// Whether the group behind a bracket holds a word that formulas alone have.
-#[tactic(auto, using(smv_text_reading::proofs::FormulaRests::flag_within))]
+#[tactic(auto, using(crate::proofs::GroupFlags::flag_within))]
 fn holds_temporal(flags: &[bool], rest: &[Token]) -> bool
     requires { Flagged flags.now rest.now }
     ensures { result ≡ holds_temporal 0 rest.now }
@@ -83,7 +83,7 @@ fn bracket_if(holds: bool) -> Start
 }
 
 /// What the tokens begin with.
-#[tactic(auto, using(smv_text_reading::proofs::FormulaRests::flagged_behind))]
+#[tactic(auto, using(crate::proofs::GroupFlags::flagged_behind))]
 pub fn start_of(flags: &[bool], tokens: &[Token]) -> Start
     requires { Flagged flags.now tokens.now }
     ensures { start_seen result ≡ start_of tokens.now }

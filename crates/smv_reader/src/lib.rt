@@ -6,6 +6,7 @@ mod expression;
 mod formals;
 mod formulas;
 mod groups;
+mod halt;
 mod modules;
 mod opening;
 mod operators;
@@ -19,5 +20,6 @@ mod types;
 
 pub use formulas::ParsedFormula;
 pub use groups::group_flags;
+pub use halt::Halt;
 pub use parsed::Parsed;
 pub use reader::Reader;

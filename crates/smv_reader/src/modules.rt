@@ -1,7 +1,7 @@
 ghost use Rattle.std.specs.Prelude.{map};
 ghost use Rattle.smv_tree.specs.Models.{bodies, body_of, part_of};
-ghost use Rattle.smv_reading.specs.Halts.{Reads};
-ghost use Rattle.smv_text_reading.specs.FormulaReading.{Flagged};
+ghost use Rattle.smv_reader.specs.Halts.{Reads};
+ghost use Rattle.smv_reader.specs.Flags.{Flagged};
 ghost use Rattle.smv_rules.specs.Programs.{more_modules, more_sections, one_module, program, section_from, sections};
 ghost use Rattle.smv_rules.specs.Running.{run};
 ghost use Rattle.smv_reader.specs.Headings.{heading_of};
@@ -9,7 +9,7 @@ ghost use Rattle.smv_reader.specs.Turns.{seen_rest, turn};
 
 use crate::reader::Reader;
 use crate::sections::{Heading, heading_by};
-use smv_reading::Halt;
+use crate::halt::Halt;
 use smv_token::{Lexeme, Mark, Token};
 use smv_tree::{Items, Module, Modules, Place, Program};
 
@@ -38,7 +38,7 @@ impl Reader {
     }
 
     /// One more section, if the word of one stands there.
-    #[tactic(auto, using(smv_text_reading::proofs::FormulaRests::flagged_behind), unfolding(smv_rules::specs::Running::run, smv_rules::specs::Keys::sees, crate::specs::Turns::turn))]
+    #[tactic(auto, using(crate::proofs::GroupFlags::flagged_behind), unfolding(smv_rules::specs::Running::run, smv_rules::specs::Keys::sees, crate::specs::Turns::turn))]
     fn next_section<'a>(
         self,
         flags: &[bool],

@@ -1,6 +1,6 @@
 ghost use Rattle.std.specs.Prelude.{◌≡◌, ◌≤◌, IfSome, Some, max};
 ghost use Rattle.smv_tree.specs.Trees.{expr_tree, two};
-ghost use Rattle.smv_reading.specs.Halts.{Reads};
+ghost use Rattle.smv_reader.specs.Halts.{Reads};
 ghost use Rattle.smv_rules.specs.Expressions.{deeper};
 ghost use Rattle.smv_rules.specs.Running.{run};
 ghost use Rattle.smv_token.specs.declared.mark.Mark.TheVariants.{Minus};
@@ -10,7 +10,7 @@ ghost use Rattle.smv_reader.specs.Views.{found};
 use crate::parsed::Parsed;
 use crate::reader::Reader;
 use smv_grammar::{infix_of, range_follows};
-use smv_reading::Halt;
+use crate::halt::Halt;
 use smv_token::{Lexeme, Mark, Token};
 use smv_tree::{Expr, Op1, Op2, Place};
 

@@ -1,10 +1,10 @@
 ghost use Rattle.std.specs.Prelude.{◌≡◌, ◌++◌, ◌∷◌, [], IfErr, IfOk, OnOk, max};
 ghost use Rattle.smv_tree.specs.Trees.{expr_tree};
-ghost use Rattle.smv_reading.specs.Halts.{IsMemory};
+ghost use Rattle.smv_reader.specs.Halts.{IsMemory};
 ghost use Rattle.smv_rules.specs.Expressions.{no_branches, one_more};
 ghost use Rattle.smv_reader.specs.Views.{branches_of, expression_of, operands_of};
 
-use smv_reading::Halt;
+use crate::halt::Halt;
 use smv_tree::{Branch, Branches, Expr, Exprs};
 use std::alloc::{AllocError, Global};
 

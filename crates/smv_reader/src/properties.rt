@@ -1,13 +1,13 @@
 ghost use Rattle.std.specs.Prelude.{map};
 ghost use Rattle.smv_tree.specs.Models.{part_of};
-ghost use Rattle.smv_reading.specs.Halts.{Reads};
-ghost use Rattle.smv_text_reading.specs.FormulaReading.{Flagged};
+ghost use Rattle.smv_reader.specs.Halts.{Reads};
+ghost use Rattle.smv_reader.specs.Flags.{Flagged};
 ghost use Rattle.smv_rules.specs.Programs.{a_property, specified, specified_by_name};
 ghost use Rattle.smv_rules.specs.Running.{run};
 
 use crate::reader::Reader;
 use smv_grammar::OUTERMOST;
-use smv_reading::Halt;
+use crate::halt::Halt;
 use smv_token::{Mark, Token};
 use smv_tree::{Item, Items, Name, Place};
 

@@ -1,6 +1,6 @@
 ghost use Rattle.std.specs.Prelude.{◌≡◌, ◌∷◌, map};
 ghost use Rattle.smv_tree.specs.Models.{part_of};
-ghost use Rattle.smv_reading.specs.Halts.{Reads};
+ghost use Rattle.smv_reader.specs.Halts.{Reads};
 ghost use Rattle.smv_rules.specs.Keys.{heading_by, of_moment};
 ghost use Rattle.smv_rules.specs.Programs.{all_assigned, assigned, assigned_from, constrained, declared, defined, more_sections, section_from};
 ghost use Rattle.smv_rules.specs.Running.{run};
@@ -9,7 +9,7 @@ ghost use Rattle.smv_reader.specs.Turns.{seen_rest, turn};
 
 use crate::reader::Reader;
 use smv_grammar::LOOSEST;
-use smv_reading::Halt;
+use crate::halt::Halt;
 use smv_token::{Lexeme, Mark, Token};
 use smv_tree::{Item, Items, Kind, Moment, Name, Place, Section};
 

@@ -1,11 +1,11 @@
 ghost use Rattle.std.specs.Prelude.{true};
 ghost use Rattle.smv_tree.specs.Models.{shape_of};
-ghost use Rattle.smv_reading.specs.Halts.{Reads};
+ghost use Rattle.smv_reader.specs.Halts.{Reads};
 ghost use Rattle.smv_rules.specs.Programs.{a_declared, actuals, instantiated, some_actuals};
 ghost use Rattle.smv_rules.specs.Running.{run};
 
 use crate::reader::Reader;
-use smv_reading::Halt;
+use crate::halt::Halt;
 use smv_token::{Lexeme, Mark, Token};
 use smv_tree::{Name, Place, TypeSyntax};
 

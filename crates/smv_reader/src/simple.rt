@@ -1,6 +1,6 @@
 ghost use Rattle.std.specs.Prelude.{◌≡◌, ◌≤◌, ◌∷◌, [], IfOk, false, length};
 ghost use Rattle.smv_tree.specs.Trees.{expr_tree};
-ghost use Rattle.smv_reading.specs.Halts.{Reads};
+ghost use Rattle.smv_reader.specs.Halts.{Reads};
 ghost use Rattle.smv_rules.specs.Expressions.{bracketed, constant, deeper, more_names, primary_from, range_from, selecting};
 ghost use Rattle.smv_rules.specs.Keys.{below, digits, path};
 ghost use Rattle.smv_rules.specs.Running.{run};
@@ -10,7 +10,7 @@ ghost use Rattle.smv_reader.specs.Views.{expression_of, found};
 use crate::parsed::Parsed;
 use crate::reader::Reader;
 use smv_grammar::{DEEPEST, capped, integer};
-use smv_reading::Halt;
+use crate::halt::Halt;
 use smv_token::{Mark, Token};
 use smv_tree::{Expr, Name, Path, Place};
 use std::alloc::AllocError;

@@ -1,15 +1,14 @@
 ghost use Rattle.std.specs.Prelude.{◌≡◌, ◌∷◌, []};
 ghost use Rattle.smv_tree.specs.Models.{shape_of};
 ghost use Rattle.smv_token.specs.declared.token.Lexeme.TheVariants.{Mark as Marked};
-ghost use Rattle.smv_reading.specs.Halts.{Reads};
-ghost use Rattle.smv_grammar.specs.Programs.{width};
-ghost use Rattle.smv_rules.specs.Programs.{a_type, an_elem, enumeration, interval, more_elems, sized};
+ghost use Rattle.smv_reader.specs.Halts.{Reads};
+ghost use Rattle.smv_rules.specs.Programs.{width, a_type, an_elem, enumeration, interval, more_elems, sized};
 ghost use Rattle.smv_rules.specs.Running.{run};
 ghost use Rattle.smv_reader.specs.Turns.{seen_rest, turn};
 
 use crate::reader::Reader;
 use smv_grammar::integer;
-use smv_reading::Halt;
+use crate::halt::Halt;
 use smv_token::{Lexeme, Mark, Token};
 use smv_tree::{Place, Ty, TypeSyntax, Value, Values};
 

@@ -1,5 +1,5 @@
 -- The grammar of programs.
-use Rattle.std.specs.Prelude.{◌++◌, ℕ, Bool, true, false, List, [], ◌∷◌, Option, Some, None}
+use Rattle.std.specs.Prelude.{◌++◌, ℕ, min, Bool, true, false, List, [], ◌∷◌, Option, Some, None}
 use Rattle.smv_tree.specs.declared.place.Place.{Place}
 use Rattle.smv_tree.specs.declared.program.Kind.{Kind}
 use Rattle.smv_tree.specs.declared.program.Moment.{Moment}
@@ -12,13 +12,20 @@ use Rattle.smv_tree.specs.Models.{Body, Formal, Part, plain, instance, variable,
 use Rattle.smv_token.specs.declared.mark.Mark.TheVariants as marks
 use Rattle.smv_grammar.specs.Forms.{integer}
 use Rattle.smv_grammar.specs.Formulas.{outermost}
-use Rattle.smv_grammar.specs.Programs.{formal, width}
 use Rattle.smv_rules.specs.Keys.{Heading, Target, variables, definitions, assignments, constraints, properties, itself, of_moment}
 use Rattle.smv_rules.specs.Keys as key
 use Rattle.smv_rules.specs.Rules.{Rule, gives, must, may, again, ◌>>=◌}
 use Rattle.smv_rules.specs.Expressions.{an_int, expr, mark, name, number, operands, optional}
 use Rattle.smv_rules.specs.Formulas.{formula_level}
 use Rattle.smv_rules.specs.Sorts.{a_shape, a_value, some_bodies, some_formals, some_parts, some_values}
+
+-- the width of a word; what is above 255 stands as that
+abbrev pub width : ℕ → ℕ
+width n = min n 255
+
+-- a formal parameter
+abbrev pub formal : List ℕ → Place → Formal
+formal n p = record { name = n; place = p }
 
 -- elem: a name or an int
 abbrev pub an_elem : Rule a_value

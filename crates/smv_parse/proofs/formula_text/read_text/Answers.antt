@@ -1,8 +1,8 @@
 use Rattle.std.proofs.Common.{Result, subst}
 use Rattle.smv_tree.specs.Models.{Claim, formula_claim}
 use Rattle.smv_grammar.specs.declared.fault.ParseFault.{ParseFault}
-use Rattle.smv_text_reading.specs.Verdicts.{Answers}
-use Rattle.smv_text_reading.proofs.Judging.{judged_so}
+use Rattle.smv_rules.specs.Verdicts.{Answers}
+use Rattle.smv_rules.proofs.Judging.{judged_so}
 use Rattle.smv_parse.specs.TextReading.{formula_of}
 use Rattle.smv_parse.proofs.formula_text.read_text.Goals as goal
 

@@ -1,5 +1,5 @@
 use Rattle.smv_tree.specs.Models.{bodies}
-use Rattle.smv_text_reading.proofs.Judging.{answers_cause, answers_found, answers_only, answers_refused}
+use Rattle.smv_rules.proofs.Judging.{answers_cause, answers_found, answers_only, answers_refused}
 use Rattle.smv_parse.proofs.TextVerdicts.{program_decides}
 use Rattle.smv_parse.proofs.program_text.parse_model.Goals as goal
 

@@ -1,8 +1,8 @@
 use Rattle.std.proofs.Common.{Result, subst, List}
 use Rattle.smv_tree.specs.Models.{Body, bodies}
 use Rattle.smv_grammar.specs.declared.fault.ParseFault.{ParseFault}
-use Rattle.smv_text_reading.specs.Verdicts.{Answers}
-use Rattle.smv_text_reading.proofs.Judging.{judged_so}
+use Rattle.smv_rules.specs.Verdicts.{Answers}
+use Rattle.smv_rules.proofs.Judging.{judged_so}
 use Rattle.smv_parse.specs.TextReading.{modules_of}
 use Rattle.smv_parse.proofs.program_text.read_text.Goals as goal
 

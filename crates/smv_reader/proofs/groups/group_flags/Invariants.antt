@@ -1,5 +1,5 @@
 use Rattle.std.proofs.Common.{◌≡◌, ◌-◌, ◌≤◌, IfSome, drop, length}
-use Rattle.smv_text_reading.specs.FormulaReading.{closers, group_flags}
+use Rattle.smv_reader.specs.Flags.{closers, group_flags}
 use Rattle.smv_reader.proofs.groups.group_flags.Given as goal
 
 abbrev pub invariant-tokens : goal.invariant-tokens

@@ -1,4 +1,4 @@
-use Rattle.smv_text_reading.proofs.FormulaRests.{flag_is}
+use Rattle.smv_reader.proofs.GroupFlags.{flag_is}
 use Rattle.smv_reader.proofs.groups.holds_temporal.Goals as goal
 
 pub returns : goal.returns

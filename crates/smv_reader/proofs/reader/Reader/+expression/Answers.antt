@@ -2,7 +2,7 @@ use Rattle.std.proofs.Common.{◌≡◌, ◌<◌, ◌≤◌, ◌-◌, ◌∷◌,
 use Rattle.std.proofs.lemmas.Result.{err_from_is_err_and}
 use Rattle.smv_tree.specs.Trees as tree
 use Rattle.smv_tree.specs.declared.expr.Expr.TheFolds.{the_lemmas}
-use Rattle.smv_reading.specs.Halts.{Reads}
+use Rattle.smv_reader.specs.Halts.{Reads}
 use Rattle.smv_rules.specs.Expressions.{applied, expr, level, more_branches, more_operands, nested, operands, primary, primary_from}
 use Rattle.smv_rules.specs.Keys.{path, primary_of, word}
 use Rattle.smv_rules.specs.Running.{run}

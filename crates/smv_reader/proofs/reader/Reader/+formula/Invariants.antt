@@ -1,5 +1,5 @@
 use Rattle.std.proofs.Common.{◌≡◌, ◌+◌, ◌-◌, ◌*◌, length}
-use Rattle.smv_text_reading.specs.FormulaReading.{Flagged}
+use Rattle.smv_reader.specs.Flags.{Flagged}
 use Rattle.smv_rules.specs.Formulas.{formula_level, joined}
 use Rattle.smv_rules.specs.Running.{run}
 use Rattle.smv_reader.specs.FormulaViews.{formula_of}

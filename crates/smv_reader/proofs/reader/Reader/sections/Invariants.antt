@@ -1,6 +1,6 @@
 use Rattle.std.proofs.Common.{◌≡◌, map, length}
 use Rattle.smv_tree.specs.Models.{part_of}
-use Rattle.smv_text_reading.specs.FormulaReading.{Flagged}
+use Rattle.smv_reader.specs.Flags.{Flagged}
 use Rattle.smv_rules.specs.Programs.{more_sections, sections}
 use Rattle.smv_rules.specs.Running.{run}
 use Rattle.smv_reader.proofs.reader.Reader.sections.Given as goal
