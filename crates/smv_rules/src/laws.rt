@@ -25,7 +25,6 @@ pub fn next_token_loses_nothing()
 {}
 
 /// A text spells at most one expression, at most one formula and at most one program.
-#[tactic(auto, using(crate::proofs::Verdicts::one_expression, crate::proofs::Verdicts::one_formula, crate::proofs::Verdicts::one_program))]
 pub fn one_spelling()
     ensures expression { (bytes : List ℕ) (x y : Tree) → SpellsExpr bytes x → SpellsExpr bytes y → x ≡ y }
     ensures formula { (bytes : List ℕ) (x y : Claim) → SpellsFormulaText bytes x → SpellsFormulaText bytes y → x ≡ y }
