@@ -7,9 +7,7 @@ use Rattle.smv_tree.specs.Models.{Claim, atom, no, after, always, some_time, bot
 use Rattle.smv_tree.specs.Trees.{Tree, Trees, Arms, truth, number, word, name, span, set, cases, choice, one, two, select, next, widen, const, count, no_trees, tree, no_arms, arm}
 use Rattle.smv_token.specs.declared.token.Token.{Token}
 use Rattle.smv_token.specs.declared.token.Lexeme.{Lexeme}
-use Rattle.smv_rules.specs.Expressions.{expr}
-use Rattle.smv_rules.specs.Sorts.{Expression, Formula}
-use Rattle.smv_rules.specs.Texts.{SpellsBy, formula}
+use Rattle.smv_rules.specs.Texts.{SpellsExpr, SpellsFormulaText}
 use Rattle.smv_print.specs.Printing.{Ink, blank, claim_printed, printed, token}
 
 -- the place that stands for each place
@@ -75,28 +73,28 @@ Laid ts is = (lexemes ts ≡ inked is)
 
 -- what is printed of the expression is a text that spells it, places aside
 pub record Reparsed (x : Tree) : Type 0 where
-  pub given : Expression
-  pub spelled : SpellsBy expr (printed x) given
-  pub alike : Alike x given.tree
+  pub tree : Tree
+  pub spelled : SpellsExpr (printed x) tree
+  pub alike : Alike x tree
 
 -- what is printed of the formula is a text that spells it, places aside
 pub record ReparsedFormula (c : Claim) : Type 0 where
-  pub given : Formula
-  pub spelled : SpellsBy formula (claim_printed c) given
-  pub alike : AlikeClaims c given.claim
+  pub claim : Claim
+  pub spelled : SpellsFormulaText (claim_printed c) claim
+  pub alike : AlikeClaims c claim
 
 -- what was written is a text that spells the expression, places aside
 pub record WroteAlike (old new : Output) (x : Tree) : Type 0 where
   pub text : List ℕ
   pub written : new.written ≡ append_known old.written text
-  pub given : Expression
-  pub spelled : SpellsBy expr text given
-  pub alike : Alike x given.tree
+  pub tree : Tree
+  pub spelled : SpellsExpr text tree
+  pub alike : Alike x tree
 
 -- what was written is a text that spells the formula, places aside
 pub record WroteAlikeFormula (old new : Output) (c : Claim) : Type 0 where
   pub text : List ℕ
   pub written : new.written ≡ append_known old.written text
-  pub given : Formula
-  pub spelled : SpellsBy formula text given
-  pub alike : AlikeClaims c given.claim
+  pub claim : Claim
+  pub spelled : SpellsFormulaText text claim
+  pub alike : AlikeClaims c claim
