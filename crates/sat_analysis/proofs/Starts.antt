@@ -3,9 +3,10 @@ use Rattle.std.proofs.Common.{◌≡◌, ◌≢◌, ℕ, ◌+◌, ◌-◌, ◌�
 use Rattle.std.proofs.lemmas.List.{take-append-drop}
 use Rattle.std.proofs.lemmas.Bool.{cases_eq}
 use Rattle.std.specs.List.{AllByRecursion}
-use Rattle.sat_log.specs.Literal.{Literal, negated, packed}
+use Rattle.sat_log.specs.Literal.{Literal, negated}
+use Rattle.sat_log.specs.Packing.{packed}
 use Rattle.sat_log.specs.Clause.{Among, HasDistinctVariables}
-use Rattle.sat_log.specs.Accepted.{clauses}
+use Rattle.sat_log.specs.Clauses.{clauses}
 use Rattle.sat_log.specs.declared.line.LogLine.{LogLine}
 use Rattle.sat_log.proofs.LiteralLemmas.{All-among, packed_injective}
 use Rattle.sat_trail.specs.Trail.{literals, top, before, bottom}

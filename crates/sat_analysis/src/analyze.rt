@@ -4,7 +4,8 @@ ghost use Rattle.std.specs.Prelude.{◌≡◌, ◌≢◌, ◌⊎◌, ◌+◌, �
 ghost use Rattle.std.specs.List.{AllByRecursion};
 ghost use Rattle.sat_log.specs.Literal.{Literal, negated};
 ghost use Rattle.sat_log.specs.Clause.{Among};
-ghost use Rattle.sat_log.specs.Accepted.{IsLog, clauses};
+ghost use Rattle.sat_log.specs.Accepted.{IsLog};
+ghost use Rattle.sat_log.specs.Clauses.{clauses};
 ghost use Rattle.sat_log.specs.Checking.{AreUpTo};
 ghost use Rattle.sat_trail.specs.Trail.{literals, top, before, bottom, places};
 ghost use Rattle.sat_trail.specs.Units.{IsTrail, IsReason, IsConflict, AreQuiet, AreDecided};

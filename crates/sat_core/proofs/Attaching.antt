@@ -7,7 +7,8 @@ use Rattle.std.proofs.lemmas.List.{append-nil, length_push, get_or_push, take_al
 use Rattle.std.proofs.lemmas.Bool.{cases_lt, le-ltb}
 use Rattle.sat_log.specs.Literal.{Literal, negated}
 use Rattle.sat_log.specs.Clause.{Among, IsFalse, HasDistinctVariables}
-use Rattle.sat_log.specs.Accepted.{hinted, clause_at, clauses}
+use Rattle.sat_log.specs.Accepted.{hinted, clause_at}
+use Rattle.sat_log.specs.Clauses.{clauses}
 use Rattle.sat_log.specs.Learned.{IsTrueUnder}
 use Rattle.sat_log.specs.Checking.{IsUpTo}
 use Rattle.sat_log.specs.declared.line.LogLine.{LogLine}

@@ -6,7 +6,8 @@ use Rattle.std.proofs.lemmas.List.{append-nil}
 use Rattle.std.proofs.lemmas.Bool.{cases_lt, lt-ltb, le-ltb}
 use Rattle.sat_log.specs.Literal.{Literal, negated}
 use Rattle.sat_log.specs.Clause.{Among, HasDistinctVariables}
-use Rattle.sat_log.specs.Accepted.{hinted, clauses, Accepts}
+use Rattle.sat_log.specs.Accepted.{hinted, Accepts}
+use Rattle.sat_log.specs.Clauses.{clauses}
 use Rattle.sat_log.specs.Learned.{IsNeeded, IsDrawn, StandsInSome, HasTwoUnset}
 use Rattle.sat_log.specs.Checking.{IsUpTo, AreUpTo}
 use Rattle.sat_log.specs.declared.line.LineKind.{LineKind}

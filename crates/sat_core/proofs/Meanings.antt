@@ -3,8 +3,8 @@ use Rattle.std.proofs.Common.{◌≡◌, ℕ, Bool, true, false, not, cond, inl,
 use Rattle.std.specs.List.{list_any}
 use Rattle.std.proofs.lemmas.Bool.{false≢true, or_from, or_left, or_right}
 use Rattle.sat_log.specs.Literal.{Literal, negated}
-use Rattle.sat_log.specs.Clause.{Among, literal_value, clause_value}
-use Rattle.sat_log.specs.Accepted.{clauses}
+use Rattle.sat_log.specs.Clause.{Among}
+use Rattle.sat_log.specs.Clauses.{literal_value, clause_value, clauses}
 use Rattle.sat_log.specs.Learned.{IsNeeded, IsFresh, IsFreshOfKind, AllFresh}
 use Rattle.sat_log.specs.declared.line.LineKind.{LineKind}
 use Rattle.sat_log.specs.declared.line.LineKind.TheVariants.{Original, Conflict, Final}

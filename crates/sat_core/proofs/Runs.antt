@@ -6,7 +6,7 @@ use Rattle.std.proofs.lemmas.List.{length_push, length-append, drop_at, append-n
 use Rattle.std.proofs.lemmas.Nat.{mul-add-lt}
 use Rattle.sat_log.specs.Literal.{Literal}
 use Rattle.std.proofs.lemmas.Bool.{ne_eqb, cases_lt}
-use Rattle.sat_log.specs.Clause.{Satisfies}
+use Rattle.sat_log.specs.Clauses.{Satisfies}
 use Rattle.sat_log.specs.Accepted.{given, originals, line_at, IsLog}
 use Rattle.sat_log.specs.Learned.{learned, AllFresh, conflicts as conflict_clauses}
 use Rattle.sat_log.specs.declared.line.LineKind.{LineKind}

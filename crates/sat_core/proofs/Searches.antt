@@ -6,7 +6,7 @@ use Rattle.std.proofs.lemmas.List.{append-nil}
 use Rattle.std.proofs.lemmas.Bool.{cases_lt, le-ltb}
 use Rattle.sat_log.specs.Literal.{Literal}
 use Rattle.sat_log.specs.Clause.{IsUnset}
-use Rattle.sat_log.specs.Accepted.{clauses}
+use Rattle.sat_log.specs.Clauses.{clauses}
 use Rattle.sat_log.specs.Checking.{IsUpTo, AreUpTo}
 use Rattle.sat_log.specs.Kept.{original}
 use Rattle.sat_log.specs.declared.line.LogLine.{LogLine}

@@ -4,8 +4,9 @@ use Rattle.std.specs.Prelude.{Option, None, Some, IsSome, option_to_list}
 use Rattle.std.specs.List.{AllByRecursion}
 use Rattle.std.proofs.lemmas.Bool.{le-ltb}
 use Rattle.sat_log.specs.Literal.{Literal, negated}
-use Rattle.sat_log.specs.Clause.{Among, AreLiterals, Satisfies, literal_value, clause_value}
-use Rattle.sat_log.specs.Accepted.{hinted, given, clauses, originals, AreLines, IsLog}
+use Rattle.sat_log.specs.Clause.{Among, AreLiterals}
+use Rattle.sat_log.specs.Clauses.{Satisfies, literal_value, clause_value, clauses}
+use Rattle.sat_log.specs.Accepted.{hinted, given, originals, AreLines, IsLog}
 use Rattle.sat_log.specs.Checking.{IsUpTo, AreUpTo}
 use Rattle.sat_log.specs.declared.line.LineKind.{LineKind}
 use Rattle.sat_log.specs.declared.line.LineKind.TheVariants.{Original, Conflict, Final}

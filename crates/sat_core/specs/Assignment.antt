@@ -1,7 +1,7 @@
 -- Which truth values answer a question, and where none do.
 use Rattle.std.specs.Prelude.{◌≡◌, ℕ, Bool, List, length}
 use Rattle.sat_log.specs.Literal.{Literal}
-use Rattle.sat_log.specs.Clause.{Satisfies}
+use Rattle.sat_log.specs.Clauses.{Satisfies}
 use Rattle.sat_log.specs.Accepted.{originals}
 use Rattle.sat_log.specs.declared.line.LogLine.{LogLine}
 pub use Rattle.sat_trail.specs.Assignment.{assignment, AreTrue}

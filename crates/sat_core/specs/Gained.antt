@@ -3,7 +3,8 @@ use Rattle.std.specs.Prelude.{◌≡◌, ◌≢◌, ◌<◌, ℕ, Some, List, []
 use Rattle.std.specs.List.{AllByRecursion}
 use Rattle.sat_log.specs.Literal.{Literal, negated}
 use Rattle.sat_log.specs.Clause.{Among}
-use Rattle.sat_log.specs.Accepted.{clauses, line_at}
+use Rattle.sat_log.specs.Accepted.{line_at}
+use Rattle.sat_log.specs.Clauses.{clauses}
 use Rattle.sat_log.specs.Learned.{IsNeeded, IsDrawn, conflicts as conflict_clauses}
 use Rattle.sat_log.specs.declared.line.LineKind.TheVariants.{Original, Conflict, Final}
 use Rattle.sat_log.specs.declared.line.LogLine.{LogLine}

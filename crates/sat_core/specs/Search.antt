@@ -3,7 +3,8 @@ use Rattle.std.specs.Prelude.{◌≡◌, ◌⊎◌, ◌<◌, ◌≤◌, ℕ, Non
 use Rattle.std.specs.List.{AllByRecursion}
 use Rattle.sat_log.specs.Literal.{Literal, negated}
 use Rattle.sat_log.specs.Clause.{Among}
-use Rattle.sat_log.specs.Accepted.{Accepts, clauses}
+use Rattle.sat_log.specs.Accepted.{Accepts}
+use Rattle.sat_log.specs.Clauses.{clauses}
 use Rattle.sat_log.specs.Learned.{IsNeeded, IsDrawn}
 use Rattle.sat_log.specs.Checking.{AreUpTo}
 use Rattle.sat_log.specs.declared.line.LineKind.TheVariants.{Conflict, Final}

@@ -2,7 +2,7 @@
 
 ghost use Rattle.std.specs.Prelude.{◌≡◌, ◌≢◌, ◌<◌, ◌≤◌, length, take, IfSome, IfNone};
 ghost use Rattle.sat_log.specs.Clause.{Among};
-ghost use Rattle.sat_log.specs.Accepted.{clauses};
+ghost use Rattle.sat_log.specs.Clauses.{clauses};
 ghost use Rattle.sat_log.specs.Checking.{IsUpTo};
 ghost use Rattle.sat_trail.specs.Trail.{literals, AreAllSet, places};
 ghost use Rattle.sat_trail.specs.Units.{AreQuiet};

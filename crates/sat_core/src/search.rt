@@ -4,7 +4,8 @@ ghost use Rattle.std.specs.Prelude.{◌≡◌, ◌≢◌, ◌+◌, ◌<◌, ◌�
 ghost use Rattle.std.specs.List.{AllByRecursion};
 ghost use Rattle.sat_log.specs.Literal.{Literal};
 ghost use Rattle.sat_log.specs.Clause.{HasDistinctVariables};
-ghost use Rattle.sat_log.specs.Accepted.{IsLog, clauses};
+ghost use Rattle.sat_log.specs.Accepted.{IsLog};
+ghost use Rattle.sat_log.specs.Clauses.{clauses};
 ghost use Rattle.sat_log.specs.Checking.{IsUpTo, AreUpTo};
 ghost use Rattle.sat_log.specs.Kept.{original, AreProper};
 ghost use Rattle.sat_trail.specs.Assignment.{assignment, AreTrue};

@@ -10,7 +10,7 @@ use Rattle.gates.specs.Nodes.{node_at, WellFormed}
 use Rattle.gates.specs.Valuation.{value_at, value_of, MayBe}
 use Rattle.gates.proofs.Growth.{node_at-zero}
 use Rattle.sat_log.specs.Literal.{negated}
-use Rattle.sat_log.specs.Clause.{literal_value, Satisfies}
+use Rattle.sat_log.specs.Clauses.{literal_value, Satisfies}
 use Rattle.sat_log.proofs.LiteralLemmas.{negated_value, Satisfies-append, Satisfies-parts}
 use Rattle.sat_core.specs.Assignment.{assignment}
 use Rattle.sat_link.specs.Encoding.{encoded, clauses_of, clauses_from, definitions}

@@ -3,7 +3,7 @@ use Rattle.std.specs.Prelude.{◌≤◌, Bool, List, length}
 use Rattle.gates.specs.declared.node.Node.{Node}
 use Rattle.gates.specs.Valuation.{IsValuation}
 use Rattle.sat_log.specs.Literal.{Literal}
-use Rattle.sat_log.specs.Clause.{Satisfies}
+use Rattle.sat_log.specs.Clauses.{Satisfies}
 use Rattle.sat_core.specs.Assignment.{assignment}
 
 -- The clauses define gates and demand nothing: whatever values the inputs have, they are true where each

@@ -3,7 +3,8 @@ use Rattle.std.proofs.Common.{◌≡◌, ◌≢◌, ℕ, Bool, true, false, cond
 use Rattle.std.specs.Prelude.{Option, Some, None}
 use Rattle.std.specs.List.{AllByRecursion}
 use Rattle.std.proofs.lemmas.Bool.{false≢true, eqb-true, eq-eqb, or_right, and_parts}
-use Rattle.sat_log.specs.Literal.{Literal, negated, packed}
+use Rattle.sat_log.specs.Literal.{Literal, negated}
+use Rattle.sat_log.specs.Packing.{packed}
 use Rattle.sat_log.specs.Clause.{Among, HasDistinctVariables, IsUnset, IsFalsified, IsUnit}
 use Rattle.sat_log.specs.Accepted.{clause_at, Refutes, Accepts}
 use Rattle.sat_log.specs.Checking.{is_set, can_assume, look_on, look, look_if, after_look, refutes, accepts}

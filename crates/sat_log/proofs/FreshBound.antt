@@ -8,10 +8,11 @@ use Rattle.std.proofs.lemmas.Bool.{eqb-true, ne_eqb, or_cases, cases_eq}
 use Rattle.std.proofs.lemmas.List.{append-nil, length-map}
 use Rattle.std.proofs.lemmas.Map.Steps.{length-le_from_distinct_below}
 use Rattle.sat_log.specs.Literal.{Literal, negated}
-use Rattle.sat_log.specs.Clause.{Among, IsWithin, HasDistinctVariables, AreLiterals}
+use Rattle.sat_log.specs.Clause.{Among, HasDistinctVariables, AreLiterals}
+use Rattle.sat_log.specs.Learned.{IsWithin, IsFresh, IsFreshOfKind, AllFresh, learned, conflicts}
 use Rattle.sat_log.specs.Checking.{is_set, IsUpTo, AreUpTo}
-use Rattle.sat_log.specs.Accepted.{hinted, clause_at, clauses, Refutes, IsOfKind, AreLines, IsLog}
-use Rattle.sat_log.specs.Learned.{IsFresh, IsFreshOfKind, AllFresh, learned, conflicts}
+use Rattle.sat_log.specs.Accepted.{hinted, clause_at, Refutes, IsOfKind, AreLines, IsLog}
+use Rattle.sat_log.specs.Clauses.{clauses}
 use Rattle.sat_log.proofs.Decided.{among_from_set, set_from_among, unset_from}
 use Rattle.sat_log.proofs.Implied.{clauses-append}
 use Rattle.sat_log.proofs.LiteralLemmas.{literal_of, All-among, All-from_among}

@@ -7,8 +7,9 @@ use Rattle.std.proofs.lemmas.List.Folds.{list_any-append}
 use Rattle.std.proofs.lemmas.List.{append-nil}
 use Rattle.std.proofs.lemmas.Bool.{false≢true}
 use Rattle.sat_log.specs.Literal.{Literal, negated}
-use Rattle.sat_log.specs.Clause.{literal_value, clause_value, Satisfies, IsFalsified, IsUnit}
-use Rattle.sat_log.specs.Accepted.{hinted, given, clause_at, Refutes, Accepts, IsOfKind, AreLines, IsLog, originals, clauses}
+use Rattle.sat_log.specs.Clause.{IsFalsified, IsUnit}
+use Rattle.sat_log.specs.Clauses.{literal_value, clause_value, Satisfies, clauses}
+use Rattle.sat_log.specs.Accepted.{hinted, given, clause_at, Refutes, Accepts, IsOfKind, AreLines, IsLog, originals}
 use Rattle.sat_log.proofs.LiteralLemmas.{All-among, negated_value, Satisfies-append}
 use Rattle.sat_log.specs.declared.line.LineKind.{LineKind}
 use Rattle.sat_log.specs.declared.line.LineKind.TheVariants.{Original, Conflict, Final}

@@ -2,8 +2,10 @@
 use Rattle.std.proofs.Common.{◌≡◌, ℕ, ◌+◌, ◌*◌, Bool, true, false, not, cond, ◌⊎◌, inl, inr, List, [], ◌∷◌, ◌++◌, refl, ap, sym, subst, ◌∙◌, arith}
 use Rattle.std.specs.List.{AllByRecursion}
 use Rattle.std.proofs.Math.Bool.{not-not}
-use Rattle.sat_log.specs.Literal.{Literal, negated, packed}
-use Rattle.sat_log.specs.Clause.{Among, literal_value, Satisfies}
+use Rattle.sat_log.specs.Literal.{Literal, negated}
+use Rattle.sat_log.specs.Packing.{packed}
+use Rattle.sat_log.specs.Clause.{Among}
+use Rattle.sat_log.specs.Clauses.{literal_value, Satisfies}
 
 -- Literals are told apart by their numbers.
 

@@ -7,7 +7,8 @@ use Rattle.std.proofs.lemmas.List.Folds.{list_any-append, position_or_len_push}
 use Rattle.std.proofs.lemmas.Bool.{false≢true, eqb-true, eq-eqb, ne_eqb, cases_eq, cases_lt, ltb-false, lt-ltb, le-ltb}
 use Rattle.std.proofs.lemmas.List.{length_push, take_more}
 use Rattle.indexmap.specs.IndexSet.{insert_key}
-use Rattle.sat_log.specs.Literal.{Literal, packed}
+use Rattle.sat_log.specs.Literal.{Literal}
+use Rattle.sat_log.specs.Packing.{packed}
 use Rattle.sat_log.specs.Marked.{Marked, is_numbered, place, places, HasPlace, HasRoomFor, KeepsRoom, placed, is_placed, Agrees, IsClear}
 use Rattle.sat_log.specs.Checking.{IsUpTo}
 use Rattle.sat_log.proofs.ListLemmas.{All-append}

@@ -2,8 +2,8 @@
 use Rattle.std.proofs.Common.{◌≢◌, ◌⊎◌, inl, inr, List, [], ◌∷◌, sym, refl, subst, ◌∙◌}
 use Rattle.std.specs.List.{AllByRecursion}
 use Rattle.sat_log.specs.Literal.{Literal, negated}
-use Rattle.sat_log.specs.Clause.{Among, IsWithin}
-use Rattle.sat_log.specs.Learned.{IsFresh, IsNeeded, IsNeededAt, IsTrueUnder, HasTwoUnset}
+use Rattle.sat_log.specs.Clause.{Among}
+use Rattle.sat_log.specs.Learned.{IsWithin, IsFresh, IsNeeded, IsNeededAt, IsTrueUnder, HasTwoUnset}
 
 within_among : (c d : List Literal) (l : Literal) → IsWithin c d → Among c l → Among d l
 within_among [] d l h m = absurd m

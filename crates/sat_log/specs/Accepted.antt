@@ -70,8 +70,3 @@ given Final c = None
 abbrev pub originals : List LogLine → List (List Literal)
 originals [] = []
 originals (line ∷ lines) = option_to_list (given line.kind line.lits) ++ originals lines
-
--- the clauses of a log: its originals and its conflict lines
-abbrev pub clauses : List LogLine → List (List Literal)
-clauses [] = []
-clauses (line ∷ lines) = option_to_list (hinted line.kind line.lits) ++ clauses lines

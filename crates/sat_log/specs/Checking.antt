@@ -1,7 +1,8 @@
 -- How a line is checked, as functions on lists: the code equals them, and they decide what is accepted.
 use Rattle.std.specs.Prelude.{◌≡◌, ◌≤◌, max, ◌&&◌, ◌||◌, ℕ, Bool, true, false, if◌then◌else◌, Option, Some, None, List, [], ◌∷◌, ◌++◌, map}
 use Rattle.std.specs.List.{AllByRecursion}
-use Rattle.sat_log.specs.Literal.{Literal, negated, packed}
+use Rattle.sat_log.specs.Literal.{Literal, negated}
+use Rattle.sat_log.specs.Packing.{packed}
 use Rattle.sat_log.specs.Marked.{Marked, HasPlace, is_numbered}
 use Rattle.sat_log.specs.Accepted.{clause_at}
 use Rattle.sat_log.specs.declared.line.LogLine.{LogLine}

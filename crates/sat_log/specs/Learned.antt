@@ -2,15 +2,24 @@
 use Rattle.std.specs.Prelude.{◌≡◌, ◌≢◌, ◌⊎◌, ℕ, Option, Some, None, List, [], ◌∷◌, ◌++◌, map, option_to_list}
 use Rattle.std.specs.List.{AllByRecursion}
 use Rattle.sat_log.specs.Literal.{Literal, negated}
-use Rattle.sat_log.specs.Clause.{Among, IsWithin, IsUnset, IsUnit, IsConsistent}
-use Rattle.sat_log.specs.Accepted.{clause_at, clauses}
+use Rattle.sat_log.specs.Clause.{Among, IsUnset, IsUnit}
+use Rattle.sat_log.specs.Accepted.{clause_at}
+use Rattle.sat_log.specs.Clauses.{clauses}
 use Rattle.sat_log.specs.declared.line.LineKind.{LineKind}
 use Rattle.sat_log.specs.declared.line.LineKind.TheVariants.{Original, Conflict, Final}
 use Rattle.sat_log.specs.declared.line.LogLine.{LogLine}
 
+-- each literal of the first is one of the second
+abbrev pub IsWithin : List Literal → List Literal → Type 0
+IsWithin c d = AllByRecursion (Among d) c
+
 -- no clause before it has all its literals in the line
 abbrev pub IsFresh : List (List Literal) → List Literal → Type 0
 IsFresh before c = AllByRecursion (λ earlier. ¬ IsWithin earlier c) before
+
+-- no literal is set together with its negation
+abbrev pub IsConsistent : List Literal → Type 0
+IsConsistent set = (l : Literal) → Among set l → ¬ Among set (negated l)
 
 -- a literal of the clause is set
 pub record IsTrueUnder (set c : List Literal) : Type 0 where

@@ -1,6 +1,8 @@
 pub mod Literal
+pub mod Packing
 pub mod Clause
 pub mod Accepted
+pub mod Clauses
 pub mod Learned
 pub mod Marked
 pub mod Checking

@@ -1,7 +1,8 @@
 -- A table of the literals that are set.
 use Rattle.std.specs.Prelude.{◌≡◌, ◌==◌, ◌+◌, ◌*◌, ◌<◌, ◌≤◌, ℕ, Bool, false, if◌then◌else◌, nat_lt, nat_eq, List, length, count_by}
 use Rattle.std.specs.List.{AllByRecursion, list_any, slice_index_or, position_or_len}
-use Rattle.sat_log.specs.Literal.{Literal, packed}
+use Rattle.sat_log.specs.Literal.{Literal}
+use Rattle.sat_log.specs.Packing.{packed}
 use Rattle.sat_log.specs.declared.line.LogLine.{LogLine}
 
 -- Which literals are set, in the order in which they were, and for which variables there is room: those

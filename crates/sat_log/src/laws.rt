@@ -2,8 +2,8 @@
 
 ghost use Rattle.std.specs.Prelude.{◌<◌, ◌^◌, ◌++◌, ℕ, Bool, List, length, IsTrue};
 ghost use Rattle.sat_log.specs.Literal.{Literal};
-ghost use Rattle.sat_log.specs.Clause.{Satisfies, clause_value};
-ghost use Rattle.sat_log.specs.Accepted.{IsLog, Accepts, originals, clauses};
+ghost use Rattle.sat_log.specs.Clauses.{Satisfies, clause_value, clauses};
+ghost use Rattle.sat_log.specs.Accepted.{IsLog, Accepts, originals};
 ghost use Rattle.sat_log.specs.Checking.{AreUpTo};
 ghost use Rattle.sat_log.specs.Learned.{IsFresh, IsNeeded, AllFresh, conflicts};
 ghost use Rattle.sat_log.specs.declared.line.LogLine.{LogLine};

@@ -1,5 +1,6 @@
 ghost use Rattle.std.specs.Prelude.{◌≡◌, ◌<◌, ◌≤◌, ◌^◌};
-ghost use Rattle.sat_log.specs.Literal.{negated, packed, IsVariable};
+ghost use Rattle.sat_log.specs.Literal.{negated, IsVariable};
+ghost use Rattle.sat_log.specs.Packing.{packed};
 
 use std::marker::Model;
 
@@ -12,7 +13,8 @@ pub struct SLit {
 
 impl Model for SLit {
     ghost use Rattle.std.specs.Prelude.{◌≤◌};
-    ghost use Rattle.sat_log.specs.Literal.{Literal, packed, unpacked, packed-unpacked};
+    ghost use Rattle.sat_log.specs.Literal.{Literal};
+    ghost use Rattle.sat_log.specs.Packing.{packed, unpacked, packed-unpacked};
 
     ghost Value = { Literal };
 

@@ -1,5 +1,5 @@
 ghost use Rattle.std.specs.Prelude.{◌≡◌, ◌++◌, ◌∷◌, ◌≤◌, ◌<◌, ◌^◌, [], false, length, vec_capacity, IfOk, OnOk, OnErr};
-ghost use Rattle.sat_log.specs.Literal.{packed};
+ghost use Rattle.sat_log.specs.Packing.{packed};
 ghost use Rattle.sat_log.specs.Marked.{place, places, placed, HasPlace, HasRoomFor, KeepsRoom, IsClear};
 ghost use Rattle.sat_log.specs.Checking.{is_set};
 

@@ -3,7 +3,8 @@ use Rattle.std.proofs.Common.{◌≡◌, ◌≢◌, ℕ, ◌<◌, ◌≤◌, len
 use Rattle.std.specs.Prelude.{Option, Some}
 use Rattle.std.specs.List.{AllByRecursion}
 use Rattle.std.proofs.lemmas.Bool.{cases_eq, eq-eqb, ne_eqb, le-ltb}
-use Rattle.sat_log.specs.Literal.{Literal, negated, packed}
+use Rattle.sat_log.specs.Literal.{Literal, negated}
+use Rattle.sat_log.specs.Packing.{packed}
 use Rattle.sat_log.specs.Clause.{Among, IsFalse, IsFalsified, HasDistinctVariables}
 use Rattle.sat_log.proofs.LiteralLemmas.{packed_injective, All-among, All-from_among}
 use Rattle.sat_watch.specs.Watched.{Pair, Watched, IsWatching, watchers, pair_at, after, HasWatch, changed}

@@ -8,7 +8,8 @@ use Rattle.std.proofs.lemmas.List.{take_more}
 use Rattle.std.proofs.lemmas.Option.{slice_get-get_or}
 use Rattle.sat_log.specs.Literal.{Literal}
 use Rattle.sat_log.specs.Clause.{HasDistinctVariables}
-use Rattle.sat_log.specs.Accepted.{hinted, clause_at, clauses, IsOfKind, AreLines, IsLog}
+use Rattle.sat_log.specs.Accepted.{hinted, clause_at, IsOfKind, AreLines, IsLog}
+use Rattle.sat_log.specs.Clauses.{clauses}
 use Rattle.sat_log.specs.Checking.{IsUpTo, AreUpTo}
 use Rattle.sat_log.specs.declared.line.LineKind.{LineKind}
 use Rattle.sat_log.specs.declared.line.LineKind.TheVariants.{Original, Conflict, Final}

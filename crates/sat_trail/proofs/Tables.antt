@@ -5,7 +5,8 @@ use Rattle.std.specs.List.{AllByRecursion}
 use Rattle.std.proofs.lemmas.List.Sums.{sum_by-set, sum_by-append, count_by-le-length}
 use Rattle.std.proofs.lemmas.Bool.{cases_eq, cases_lt, eq-eqb, ne_eqb, or_from, false_from_ne_true}
 use Rattle.std.proofs.lemmas.List.{get_or_past, length_push}
-use Rattle.sat_log.specs.Literal.{Literal, packed}
+use Rattle.sat_log.specs.Literal.{Literal}
+use Rattle.sat_log.specs.Packing.{packed}
 use Rattle.sat_log.specs.Clause.{Among, IsUnset}
 use Rattle.sat_log.specs.Marked.{is_numbered}
 use Rattle.sat_log.proofs.Decided.{among_from_set, set_from_among}

@@ -5,7 +5,8 @@ use Rattle.std.specs.List.{AllByRecursion}
 use Rattle.std.proofs.lemmas.Bool.{lt-ltb, le-ltb, false≢true, false_from_ne_true}
 use Rattle.std.proofs.lemmas.List.{reverse-append, length-reverse, length-map, length-drop, take-append-drop, map-append, drop_at, take_more, get_or-reverse, get_or_append_left}
 use Rattle.sat_log.specs.Literal.{Literal, negated}
-use Rattle.sat_log.specs.Clause.{Among, HasDistinctVariables, literal_value}
+use Rattle.sat_log.specs.Clause.{Among, HasDistinctVariables}
+use Rattle.sat_log.specs.Clauses.{literal_value}
 use Rattle.sat_log.proofs.LiteralLemmas.{literal_by_parts}
 use Rattle.sat_trail.specs.Assignment.{assignment, AreTrue}
 use Rattle.sat_trail.specs.Trail.{entry_of, top, before, bottom}

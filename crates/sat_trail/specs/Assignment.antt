@@ -2,7 +2,7 @@
 use Rattle.std.specs.Prelude.{◌-◌, ℕ, Bool, false, List, slice_index_or, IsTrue}
 use Rattle.std.specs.List.{AllByRecursion}
 use Rattle.sat_log.specs.Literal.{Literal}
-use Rattle.sat_log.specs.Clause.{literal_value}
+use Rattle.sat_log.specs.Clauses.{literal_value}
 
 -- the value of each variable, from the list of those of the variables 1, 2 and so on
 abbrev pub assignment : List Bool → ℕ → Bool

@@ -3,7 +3,8 @@ use Rattle.std.specs.Prelude.{◌≡◌, ◌≢◌, ◌⊎◌, ◌+◌, ◌≤�
 use Rattle.std.specs.List.{AllByRecursion}
 use Rattle.sat_log.specs.Literal.{Literal, negated}
 use Rattle.sat_log.specs.Clause.{Among, IsFalsified}
-use Rattle.sat_log.specs.Accepted.{clauses, clause_at}
+use Rattle.sat_log.specs.Accepted.{clause_at}
+use Rattle.sat_log.specs.Clauses.{clauses}
 use Rattle.sat_log.specs.Learned.{IsTrueUnder, HasTwoUnset}
 use Rattle.sat_log.specs.declared.line.LogLine.{LogLine}
 use Rattle.sat_trail.specs.Trail.{literals, top, before}

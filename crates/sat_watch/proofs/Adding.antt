@@ -2,7 +2,8 @@
 use Rattle.std.proofs.Common.{◌≡◌, ◌≢◌, ℕ, ◌<◌, inl, inr, List, [], ◌∷◌, ◌++◌, length, get_or, set, refl, ap, sym, subst, ◌∙◌, arith}
 use Rattle.std.specs.Prelude.{Option, None, Some}
 use Rattle.std.proofs.lemmas.List.{get_or_append_left, get_or_push, get_or-set_same, get_or-set_other, length_push, length-set, length-map}
-use Rattle.sat_log.specs.Literal.{Literal, packed}
+use Rattle.sat_log.specs.Literal.{Literal}
+use Rattle.sat_log.specs.Packing.{packed}
 use Rattle.sat_log.proofs.LiteralLemmas.{packed_injective}
 use Rattle.sat_watch.specs.Watched.{Watched, HasPlace, watchers, Joins}
 use Rattle.sat_watch.specs.Threads.{no_record, record_at, link, lists_from, pair_of, watched_in, WatchesAt, IsThread, IsRecord, KeepsWatches}

@@ -3,7 +3,8 @@ use Rattle.std.proofs.Common.{◌≡◌, ◌≢◌, ℕ, ◌<◌, Bool, true, fa
 use Rattle.std.specs.Prelude.{Option, None, Some}
 use Rattle.std.proofs.lemmas.List.{get_or-set_same, get_or-set_other, length-set, map-set}
 use Rattle.std.proofs.Math.Seq.{map-set_same}
-use Rattle.sat_log.specs.Literal.{Literal, packed}
+use Rattle.sat_log.specs.Literal.{Literal}
+use Rattle.sat_log.specs.Packing.{packed}
 use Rattle.sat_log.proofs.LiteralLemmas.{packed_injective}
 use Rattle.sat_watch.specs.Watched.{Watched, HasPlace, watchers, pair_at, HasWatch, changed, set_pair, Moves, AreDistinct, first_of, next_of, after, without}
 use Rattle.sat_watch.specs.Threads.{no_record, record_at, link, relinked, exchanged, links, lists_from, pair_of, watched_in, IsChain, WatchesAt, IsThread, IsRecord, KeepsWatches}

@@ -3,7 +3,8 @@ use Rattle.std.proofs.Common.{◌≡◌, ◌≢◌, ℕ, zero, suc, ◌+◌, ◌
 use Rattle.std.specs.Prelude.{Option, None, Some}
 use Rattle.std.proofs.lemmas.List.{get_or_append_left, get_or_push, get_or-map, length_push, length-map}
 use Rattle.std.proofs.lemmas.Bool.{cases_lt}
-use Rattle.sat_log.specs.Literal.{Literal, packed}
+use Rattle.sat_log.specs.Literal.{Literal}
+use Rattle.sat_log.specs.Packing.{packed}
 use Rattle.sat_log.proofs.LiteralLemmas.{packed_injective}
 use Rattle.sat_watch.specs.Watched.{Pair, Watched, no_pair, HasPlace, watchers, HasWatch, IsAmong, AreDistinct, first_of, next_of, without, IsListOf, IsWatching}
 use Rattle.sat_watch.specs.Threads.{no_record, record_at, link, links, chain, lists_from, pair_of, watched_in, IsChain, WatchesAt, IsThread, KeepsWatches}

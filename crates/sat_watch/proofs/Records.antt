@@ -1,7 +1,7 @@
 -- What a record says after one of its links or watches has changed.
 use Rattle.std.proofs.Common.{◌≡◌, ◌≢◌, ◌<◌, ℕ, cond, ◌⊎◌, inl, inr, refl, ap, sym, ◌∙◌, ⊎_elim}
 use Rattle.std.specs.Prelude.{Option}
-use Rattle.sat_log.specs.Literal.{packed}
+use Rattle.sat_log.specs.Packing.{packed}
 use Rattle.sat_watch.specs.Threads.{link, relinked, exchanged, pair_of, WatchesAt, IsRecord}
 use Rattle.sat_watch.specs.declared.record.Watch.{Watch}
 use Rattle.sat_watch.specs.declared.record.Record.{Record}

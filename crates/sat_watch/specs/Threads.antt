@@ -1,7 +1,7 @@
 -- How the lists are kept: the first clause of each, and in the record of each clause two links.
 use Rattle.std.specs.Prelude.{◌≡◌, ◌≢◌, ◌⊎◌, ◌==◌, ◌<◌, ◌+◌, ℕ, zero, suc, Option, None, Some, if◌then◌else◌, List, [], ◌∷◌, length, map, slice_index_or}
 use Rattle.std.specs.List.{AllByRecursion}
-use Rattle.sat_log.specs.Literal.{packed}
+use Rattle.sat_log.specs.Packing.{packed}
 use Rattle.sat_watch.specs.Watched.{Pair, Watched, no_pair, IsAmong, AreDistinct}
 use Rattle.sat_watch.specs.declared.record.Watch.{Watch}
 use Rattle.sat_watch.specs.declared.record.Record.{Record}

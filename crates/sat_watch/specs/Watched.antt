@@ -1,7 +1,8 @@
 -- Which clauses watch which literals.
 use Rattle.std.specs.Prelude.{◌≡◌, ◌≢◌, ◌⊎◌, ◌==◌, ◌<◌, ℕ, false, Option, None, Some, if◌then◌else◌, List, [], ◌∷◌, length, slice_index_or, slice_set}
 use Rattle.std.specs.List.{AllByRecursion}
-use Rattle.sat_log.specs.Literal.{Literal, packed}
+use Rattle.sat_log.specs.Literal.{Literal}
+use Rattle.sat_log.specs.Packing.{packed}
 
 -- the two literals that a clause watches
 pub record Pair : Type 0 where

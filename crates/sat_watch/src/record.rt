@@ -1,5 +1,5 @@
 ghost use Rattle.std.specs.Prelude.{◌≡◌};
-ghost use Rattle.sat_log.specs.Literal.{packed};
+ghost use Rattle.sat_log.specs.Packing.{packed};
 ghost use Rattle.sat_watch.specs.Threads.{link, relinked, exchanged};
 
 use sat_log::SLit;

@@ -5,9 +5,7 @@ use Rattle.std.specs.Prelude.{ℕ, List, [], Option, flat_map}
 use Rattle.smv_tree.specs.declared.value.Value.{Value}
 use Rattle.smv_tree.specs.Models.{Claim}
 use Rattle.smv_tree.specs.Trees.{Tree}
-use Rattle.smv_meaning.specs.Counterexamples.{LoopChoice}
-use Rattle.smv_meaning.specs.Marks.{MarkedRun}
-use Rattle.smv_meaning.specs.PartialTraces.{Partial}
+use Rattle.smv_meaning.specs.Marks.{LoopChoice, MarkedRun, Partial}
 use Rattle.sat_log.specs.declared.line.LogLine.{LogLine}
 use Rattle.shell_world.specs.declared.event.Event.{Event}
 use Rattle.shell_world.specs.declared.event.Side.{Side}

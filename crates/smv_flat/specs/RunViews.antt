@@ -1,6 +1,5 @@
 -- The way from runs and partial traces to those of the definitions.
-use Rattle.smv_meaning.specs.Marks.{MarkedRun}
-use Rattle.smv_meaning.specs.PartialTraces.{Partial}
+use Rattle.smv_meaning.specs.Marks.{MarkedRun, Partial}
 use Rattle.smv_flat.specs.declared.runs.Run.{Run}
 use Rattle.smv_flat.specs.declared.partial.Partial.{Partial as PartialTrace}
 

@@ -23,7 +23,7 @@ pub struct Stated {
 impl Model for Stated {
     ghost use Rattle.std.specs.Prelude.{List, map};
     ghost use Rattle.std.specs.List.Sorted.{IsStrictlyIncreasing};
-    ghost use Rattle.smv_meaning.specs.PartialTraces.{Stated as StatedOne};
+    ghost use Rattle.smv_meaning.specs.Marks.{Stated as StatedOne};
     ghost use Rattle.smv_flat.specs.StatedViews.{stated_of};
 
     ghost Value = { List StatedOne };

@@ -20,7 +20,8 @@ use Rattle.smv_meaning.specs.FlatLines.{Fits, fits_name, fits_one, fits_truth, t
 use Rattle.smv_meaning.specs.Example.{here, a, b, p, v, off, path, cell, ring, showing, once_around, is_off, off_again_and_again, until_on}
 use Rattle.smv_meaning.specs.Places.{next_place, place, Until}
 use Rattle.smv_meaning.specs.LassoTruth.{TrueAt}
-use Rattle.smv_meaning.specs.Counterexamples.{any_loop, HoldsIn, IsCounterexample}
+use Rattle.smv_meaning.specs.Counterexamples.{HoldsIn, IsCounterexample}
+use Rattle.smv_meaning.specs.Marks.{any_loop}
 use Rattle.smv_meaning.proofs.Lists.{contains_none, contains_cases, contains_only, slice_get-contained}
 use Rattle.smv_meaning.proofs.Lassos.{place_below}
 use Rattle.smv_meaning.proofs.FlatValues.{flat_values}

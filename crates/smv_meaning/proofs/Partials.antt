@@ -4,7 +4,8 @@ use Rattle.std.specs.Prelude.{map, if◌then◌else◌}
 use Rattle.std.specs.List.{AllByRecursion}
 use Rattle.smv_tree.specs.declared.value.Value.{Value}
 use Rattle.smv_meaning.specs.Instances.{Variable}
-use Rattle.smv_meaning.specs.PartialTraces.{Stated, HasStated, HaveStated, all_stated, IsIn, AreIn}
+use Rattle.smv_meaning.specs.PartialTraces.{HasStated, HaveStated, all_stated, IsIn, AreIn}
+use Rattle.smv_meaning.specs.Marks.{Stated}
 
 module _ {X : Type 0} {P Q : X → Type 0} where
   all_kept : ((x : X) → P x → Q x) → (xs : List X) → AllByRecursion P xs → AllByRecursion Q xs

@@ -7,15 +7,8 @@ use Rattle.smv_meaning.specs.Runs.{Holds, IsRun, at_state, nothing_else}
 use Rattle.smv_meaning.specs.Places.{place}
 use Rattle.smv_meaning.specs.LassoTruth.{TrueAt}
 use Rattle.smv_meaning.specs.SettledTruth.{Settled}
-use Rattle.smv_meaning.specs.Marks.{MarkedRun, Repeats}
-
--- what may be looked for at a bound: a path without a loop; that or any loop; the loop to a state
--- of this number; the loop that goes back so many steps from the last state
-pub data LoopChoice : Type 0 where
-  no_loop : LoopChoice
-  any_loop : LoopChoice
-  loop_to : ℕ → LoopChoice
-  loop_back : ℕ → LoopChoice
+use Rattle.smv_meaning.specs.Marks.{MarkedRun, LoopChoice, no_loop, any_loop, loop_to, loop_back}
+use Rattle.smv_meaning.specs.Repeats.{Repeats}
 
 -- a choice admits at bound k a path without a mark, or the lasso k, l of a mark l
 abbrev pub Admits : LoopChoice → ℕ → Option ℕ → Type 0

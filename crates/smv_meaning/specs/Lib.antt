@@ -14,6 +14,7 @@ pub mod SettledTruth
 pub mod Duals
 pub mod Sweeps
 pub mod Marks
+pub mod Repeats
 pub mod Counterexamples
 pub mod PartialTraces
 pub mod Rows

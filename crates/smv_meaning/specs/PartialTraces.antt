@@ -6,19 +6,8 @@ use Rattle.smv_tree.specs.declared.value.Value.{Value}
 use Rattle.smv_meaning.specs.Instances.{Variable, variables}
 use Rattle.smv_meaning.specs.Values.{is_of_state}
 use Rattle.smv_meaning.specs.Runs.{IsRun}
-use Rattle.smv_meaning.specs.Marks.{MarkedRun, Repeats}
-
--- a stated value of the variable of this number, among all variables of a program
-pub record Stated : Type 0 where
-  pub variable : ℕ
-  pub value : Value
-
--- what is stated of each state and of each input, and the number of the state that the last one
--- repeats, if one is marked
-pub record Partial : Type 0 where
-  pub states : List (List Stated)
-  pub inputs : List (List Stated)
-  pub mark : Option ℕ
+use Rattle.smv_meaning.specs.Marks.{MarkedRun, Stated, Partial}
+use Rattle.smv_meaning.specs.Repeats.{Repeats}
 
 -- the variables whose values a state has, and those whose values an input has
 abbrev pub of_state : Variable → Bool

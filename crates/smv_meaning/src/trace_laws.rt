@@ -3,9 +3,10 @@ ghost use Rattle.smv_tree.specs.Models.{Body, Claim};
 ghost use Rattle.smv_tree.specs.declared.value.Value.{Value};
 ghost use Rattle.smv_meaning.specs.Runs.{IsRun};
 ghost use Rattle.smv_meaning.specs.LassoTruth.{TrueAt};
-ghost use Rattle.smv_meaning.specs.Marks.{MarkedRun, Repeats};
-ghost use Rattle.smv_meaning.specs.Counterexamples.{IsValid, no_loop, any_loop, loop_to, loop_back, HoldsIn, Refutes, WordBegins};
-ghost use Rattle.smv_meaning.specs.PartialTraces.{Partial, Extends, partial_of, StatesNoMore};
+ghost use Rattle.smv_meaning.specs.Marks.{MarkedRun, no_loop, any_loop, loop_to, loop_back, Partial};
+ghost use Rattle.smv_meaning.specs.Repeats.{Repeats};
+ghost use Rattle.smv_meaning.specs.Counterexamples.{IsValid, HoldsIn, Refutes, WordBegins};
+ghost use Rattle.smv_meaning.specs.PartialTraces.{Extends, partial_of, StatesNoMore};
 
 /// A choice of one loop is valid at the bounds that have it; the others are valid at each bound.
 pub fn single_loops_are_valid_from_a_bound_on()

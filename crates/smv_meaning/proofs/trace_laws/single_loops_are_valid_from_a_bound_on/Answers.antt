@@ -1,6 +1,7 @@
 use Rattle.std.proofs.Common.{ℕ, ◌-◌, ◌<◌, ◌≤◌, Some, None, refl, arith}
 use Rattle.std.specs.Prelude.{Option}
-use Rattle.smv_meaning.specs.Counterexamples.{Admits, loop_to, loop_back}
+use Rattle.smv_meaning.specs.Counterexamples.{Admits}
+use Rattle.smv_meaning.specs.Marks.{loop_to, loop_back}
 use Rattle.smv_meaning.proofs.trace_laws.single_loops_are_valid_from_a_bound_on.Goals as goal
 
 to_below : (l k : ℕ) (mark : Option ℕ) → Admits (loop_to l) k mark → l < k

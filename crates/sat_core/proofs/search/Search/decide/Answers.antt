@@ -3,7 +3,7 @@ use Rattle.std.specs.Prelude.{None}
 use Rattle.std.proofs.lemmas.Bool.{iff_false}
 use Rattle.sat_log.specs.Literal.{Literal}
 use Rattle.sat_log.specs.Clause.{Among, IsUnset}
-use Rattle.sat_log.specs.Accepted.{clauses}
+use Rattle.sat_log.specs.Clauses.{clauses}
 use Rattle.sat_log.specs.Checking.{IsUpTo}
 use Rattle.sat_log.proofs.LiteralLemmas.{All-among}
 use Rattle.sat_trail.specs.Trail.{Trailed, literals, top}

@@ -1,5 +1,6 @@
 use Rattle.std.proofs.Common.{◌≡◌, List, sym, subst, ◌∙◌, refl}
-use Rattle.sat_log.specs.Accepted.{IsLog, clauses}
+use Rattle.sat_log.specs.Accepted.{IsLog}
+use Rattle.sat_log.specs.Clauses.{clauses}
 use Rattle.sat_log.specs.Checking.{AreUpTo}
 use Rattle.sat_log.specs.declared.line.LogLine.{LogLine}
 use Rattle.sat_trail.specs.Trail.{literals, AreAllSet}

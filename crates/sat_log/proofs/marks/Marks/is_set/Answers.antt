@@ -1,7 +1,6 @@
-use Rattle.std.proofs.Common.{◌≤◌, ◌<◌, ◌*◌, length, arith, sym, ap, ◌∙◌, false}
+use Rattle.std.proofs.Common.{◌≤◌, ◌<◌, ◌*◌, length, arith, sym, ap, ◌∙◌, false, subst}
 use Rattle.std.proofs.lemmas.List.{get_or_default}
-use Rattle.std.proofs.Common.{subst}
-use Rattle.sat_log.specs.Literal.{packed}
+use Rattle.sat_log.specs.Packing.{packed}
 use Rattle.sat_log.specs.Marked.{Marked, HasPlace, placed, places, is_placed, is_numbered}
 use Rattle.sat_log.proofs.MarkLemmas.{number_within, placed_set}
 use Rattle.sat_log.proofs.marks.Marks.is_set.Goals as goal

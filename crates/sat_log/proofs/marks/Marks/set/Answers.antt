@@ -1,6 +1,6 @@
 use Rattle.std.proofs.Common.{◌≡◌, ◌≤◌, ◌<◌, ◌*◌, false, length, arith, ap, ◌∙◌, sym, subst}
 use Rattle.std.specs.Prelude.{vec_capacity}
-use Rattle.sat_log.specs.Literal.{packed}
+use Rattle.sat_log.specs.Packing.{packed}
 use Rattle.sat_log.specs.Marked.{Marked, HasPlace, placed, places, is_placed, is_numbered}
 use Rattle.sat_log.proofs.MarkLemmas.{number_within, placed_set, spare_left, agrees_set}
 use Rattle.sat_log.proofs.marks.Marks.set.Goals as goal

@@ -1,5 +1,6 @@
 use Rattle.std.proofs.Common.{◌≡◌, ◌<◌, ◌≤◌, length, ap, sym, subst, ◌∙◌, arith}
-use Rattle.sat_log.specs.Literal.{negated, packed}
+use Rattle.sat_log.specs.Literal.{negated}
+use Rattle.sat_log.specs.Packing.{packed}
 use Rattle.sat_watch.specs.Watched.{watchers, AreDistinct}
 use Rattle.sat_trail.specs.Trail.{places}
 use Rattle.sat_trail.proofs.Tables.{place_within}

@@ -1,6 +1,7 @@
 use Rattle.std.proofs.Common.{◌≡◌, ◌<◌, ◌≤◌, false, List, length, reverse, ap, sym, subst, ◌∙◌, arith}
 use Rattle.std.proofs.lemmas.List.{get_or_default}
-use Rattle.sat_log.specs.Literal.{Literal, packed}
+use Rattle.sat_log.specs.Literal.{Literal}
+use Rattle.sat_log.specs.Packing.{packed}
 use Rattle.sat_log.specs.Clause.{Among}
 use Rattle.sat_log.specs.Marked.{is_numbered}
 use Rattle.sat_log.proofs.Decided.{among_from_set, set_from_among}

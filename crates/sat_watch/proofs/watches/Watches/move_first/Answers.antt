@@ -1,7 +1,7 @@
 use Rattle.std.proofs.Common.{get_or, set, ap, sym, ◌∙◌, arith}
 use Rattle.std.specs.Prelude.{None}
 use Rattle.std.proofs.lemmas.List.{get_or_default, length-set}
-use Rattle.sat_log.specs.Literal.{packed}
+use Rattle.sat_log.specs.Packing.{packed}
 use Rattle.sat_watch.specs.Threads.{no_record, link, exchanged}
 use Rattle.sat_watch.proofs.Leaving.{movable, moved_first}
 use Rattle.sat_watch.proofs.watches.Watches.move_first.Goals as goal

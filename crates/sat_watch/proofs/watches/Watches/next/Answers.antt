@@ -1,6 +1,6 @@
 use Rattle.std.proofs.Common.{subst, ap, ◌∙◌, arith}
 use Rattle.std.proofs.lemmas.List.{get_or_default}
-use Rattle.sat_log.specs.Literal.{packed}
+use Rattle.sat_log.specs.Packing.{packed}
 use Rattle.sat_watch.specs.Threads.{link, no_record}
 use Rattle.sat_watch.specs.Watched.{IsWatching}
 use Rattle.sat_watch.proofs.Moves.{watching, place_of, next_of_list}
