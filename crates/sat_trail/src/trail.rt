@@ -125,6 +125,7 @@ impl Trail {
         requires { i < length self.now.entries }
         ensures entry { bottom (i + 1) self.now.entries ≡ result ∷ bottom i self.now.entries }
         ensures exists { result.literal.var ≤ self.now.variables }
+        ensures room { i < self.now.variables }
     {
         let literal = self.trail[i];
         let var = literal.var() as usize;
