@@ -1,10 +1,8 @@
-use Rattle.std.proofs.Common.{◌≡◌, ◌≢◌, ◌-◌, inl, ap, sym, subst, ◌∙◌, refl, length, arith}
+use Rattle.std.proofs.Common.{◌≡◌, ◌≢◌, inl, ap, sym, subst, ◌∙◌, refl}
 use Rattle.std.specs.Prelude.{None}
 use Rattle.sat_log.specs.Literal.{negated}
 use Rattle.sat_log.specs.Clause.{Among}
 use Rattle.sat_log.proofs.LiteralLemmas.{negated-negated}
-use Rattle.sat_trail.specs.Trail.{literals}
-use Rattle.sat_analysis.specs.Analysis.{Analyzed, IsUnmarked}
 use Rattle.sat_analysis.proofs.Awaited.{position_at}
 use Rattle.sat_analysis.proofs.Visits.{trail_at, in_whole, reason_at, All-at_entry}
 use Rattle.sat_analysis.proofs.analysis.Analysis.refute_wanted.Goals as goal

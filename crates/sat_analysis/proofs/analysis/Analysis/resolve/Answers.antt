@@ -1,6 +1,6 @@
 use Rattle.std.proofs.Common.{◌≡◌, ◌+◌, ◌≤◌, ◌++◌, ℕ, Bool, List, length, take, drop, ap, sym, subst, ◌∙◌, arith}
 use Rattle.std.specs.Prelude.{Some}
-use Rattle.std.specs.BinaryHeap.{heap_items, heap_len}
+use Rattle.std.specs.BinaryHeap.{heap_items}
 use Rattle.std.proofs.lemmas.List.{take_at}
 use Rattle.sat_log.specs.Literal.{Literal}
 use Rattle.sat_trail.specs.Trail.{literals, bottom}
@@ -30,5 +30,5 @@ returns-in-Some-clause-awaited c i w =
     let positions = ap (λ (v : Walk). v.positions) (sym c.self.view_is) in
     record {
       marked = subst (λ (s : List Bool). AreAwaited (heap_items c.mark_others.new.positions) s (bottom i c.args.trail.now.entries)) (sym new) (c.mark_others.ensures.awaited i (subst (λ (s : List Bool). AreAwaited (heap_items a.positions) s (bottom i c.args.trail.now.entries)) (sym old) (subst (λ (ps : List ℕ). AreAwaited ps c.args.self.now.state.seen (bottom i c.args.trail.now.entries)) positions w.marked)));
-      few = ?;
+      few = subst (λ (s : List Bool). length (heap_items c.mark_others.new.positions) ≤ marked_count s) (sym new) (omega (arith, c.mark_others.ensures.few, c.mark_others.new.positions.data.ok.0));
     }

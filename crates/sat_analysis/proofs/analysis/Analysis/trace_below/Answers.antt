@@ -1,4 +1,4 @@
-use Rattle.std.proofs.Common.{◌≡◌, ◌+◌, ◌<◌, ◌≤◌, [], length, sym, subst, refl, ◌∙◌, ap, arith}
+use Rattle.std.proofs.Common.{◌+◌, [], length, sym, subst, refl, ◌∙◌, ap, arith}
 use Rattle.sat_trail.specs.Trail.{bottom}
 use Rattle.sat_analysis.specs.Analysis.{Analyzed, marked_at, AreAwaited, IsAnalysis, AreNegationsOf}
 use Rattle.sat_analysis.proofs.Awaited.{to_next, next_awaited, to_end}
