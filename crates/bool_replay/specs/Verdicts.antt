@@ -3,7 +3,7 @@ use Rattle.std.specs.Prelude.{◌≡◌, ℕ, List, [], ◌∷◌, length, Some,
 use Rattle.smv_tree.specs.declared.program.Program.{Program}
 use Rattle.smv_tree.specs.Models.{Body, bodies}
 use Rattle.smv_parse.specs.FirstForm.{IsFirstForm}
-use Rattle.smv_grammar.specs.Texts.{ExplainsProgram, SpellsProgram}
+use Rattle.smv_rules.specs.Texts.{ExplainsProgram, SpellsProgram}
 use Rattle.bool_replay.specs.declared.load.ModelFault.{ModelFault}
 use Rattle.bool_replay.specs.declared.load.ModelFault.TheVariants as fault
 use Rattle.bool_replay.specs.declared.verdict.Verdict.{Verdict}

@@ -1,12 +1,6 @@
 pub mod Forms
 pub mod Branches
 pub mod IsMark
-pub mod Grammar
-pub mod Fronts
 pub mod Faults
 pub mod Formulas
-pub mod Rules
-pub mod RuleGrammar
-pub mod Programs
 pub mod Explaining
-pub mod Texts

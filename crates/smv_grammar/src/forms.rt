@@ -1,8 +1,8 @@
 ghost use Rattle.std.specs.Prelude.{◌≡◌, ◌≤◌, IfSome};
-ghost use Rattle.smv_grammar.specs.Forms.{begins_dots, begins_range, capped, closed_below, closer, following_level, form, function_of, infix_of, integer, level_of, loosest, opening_level, own_level, tail_by, to_right};
+ghost use Rattle.smv_grammar.specs.Forms.{begins_dots, begins_range, capped, function_of, infix_of, integer, loosest, operator_level, to_right};
 
 use smv_token::{Lexeme, Mark, Token};
-use smv_tree::{Op1, Op2, Place};
+use smv_tree::{Op1, Op2};
 
 /// How many nestings may be open, and how deep an expression may be.
 pub const DEEPEST: u32 = 1000;
@@ -37,17 +37,6 @@ pub fn integer(below: bool, value: u64) -> i64
         9223372036854775807
     };
     if below { -magnitude } else { magnitude }
-}
-
-/// The mark that ends the operands of a set, or of `count`.
-pub fn closer(counts: bool) -> Mark
-    ensures { result ≡ closer counts }
-{
-    if counts {
-        Mark::CloseRound
-    } else {
-        Mark::CloseCurly
-    }
 }
 
 /// The function of one operand that a word names.
@@ -96,8 +85,21 @@ pub fn infix_of(mark: Mark) -> Option<(u32, Op2)>
     }
 }
 
+/// The level of the operator of two operands that a mark is, or 0.
+pub fn operator_level(mark: Mark) -> u32
+    ensures { result ≡ operator_level mark }
+{
+    match mark {
+        Mark::Arrow => 15,
+        _ => match infix_of(mark) {
+            Some((level, _)) => level,
+            None => 0,
+        },
+    }
+}
+
 /// Whether a `..` is at the front.
-pub fn dots_follow(tokens: &[Token]) -> bool
+fn dots_follow(tokens: &[Token]) -> bool
     ensures { result ≡ begins_dots tokens.now }
 {
     let [first, ..] = tokens else {
@@ -119,82 +121,9 @@ pub fn range_follows(tokens: &[Token]) -> bool
     }
 }
 
-/// The level of what a mark begins, or 0. The flag says whether a number and a `..` stand behind it.
-pub fn level_of_form(place: Place, ranges: bool, mark: Mark) -> u32
-    ensures { result ≡ own_level (form place ranges mark) }
-{
-    match mark {
-        Mark::True | Mark::False | Mark::SelfWord | Mark::OpenRound | Mark::OpenCurly => 1,
-        Mark::Next | Mark::Count | Mark::Case | Mark::Extend | Mark::Resize => 1,
-        Mark::UwConst | Mark::SwConst => 1,
-        Mark::Bang => 2,
-        Mark::Minus => { if ranges { 1 } else { 4 } }
-        _ => match function_of(mark) {
-            Some(_) => 1,
-            None => 0,
-        },
-    }
-}
-
-/// The level of what the first token begins, or 0.
-pub fn opening_level(tokens: &[Token]) -> u32
-    ensures { result ≡ opening_level tokens.now }
-{
-    let [first, rest @ ..] = tokens else {
-        return 0;
-    };
-    match first.lexeme {
-        Lexeme::Name(_) => 1,
-        Lexeme::Number(_) => 1,
-        Lexeme::Word(_) => 1,
-        Lexeme::Mark(mark) => level_of_form(first.place, range_follows(rest), mark),
-    }
-}
-
-/// The level of an operator, or 0.
-pub fn level_of_tail(place: Place, mark: Mark) -> u32
-    ensures { result ≡ level_of (tail_by place mark) }
-{
-    match mark {
-        Mark::OpenSquare => 1,
-        Mark::Question => 13,
-        Mark::Arrow => 15,
-        _ => match infix_of(mark) {
-            Some((level, _)) => level,
-            None => 0,
-        },
-    }
-}
-
-/// The level of the operator at the front, or 0.
-pub fn following_level(tokens: &[Token]) -> u32
-    ensures { result ≡ following_level tokens.now }
-{
-    let [first, ..] = tokens else {
-        return 0;
-    };
-    match first.lexeme {
-        Lexeme::Mark(mark) => level_of_tail(first.place, mark),
-        Lexeme::Name(_) => 0,
-        Lexeme::Number(_) => 0,
-        Lexeme::Word(_) => 0,
-    }
-}
-
 /// Whether the operators of a level group to the right.
 pub fn to_right(level: u32) -> bool
     ensures { result ≡ to_right level }
 {
     level == 13 || level == 15
-}
-
-/// The level from which on operators may follow an expression of a level.
-pub fn closed_below(level: u32) -> u32
-    ensures { result ≡ closed_below level }
-{
-    if level == 13 || level == 15 {
-        level + 1
-    } else {
-        level
-    }
 }

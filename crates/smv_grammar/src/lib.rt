@@ -1,7 +1,6 @@
 #![tactic(auto)]
-//! The grammar of the SMV language: which tokens spell which expression, formula or program, which
-//! are a front of one, and what the fault of a text is. The functions are the tables of operators,
-//! as the code sees them, and the text of a fault.
+//! The tables of the SMV language: the functions and operators of expressions and of formulas with their
+//! levels, as the definitions and the code see them, and the faults of texts.
 
 mod fault;
 mod forms;
@@ -9,8 +8,7 @@ mod joining;
 
 pub use fault::ParseFault;
 pub use forms::{
-    ATOMIC, DEEPEST, LOOSEST, OUTERMOST, capped, closed_below, closer, dots_follow,
-    following_level, function_of, infix_of, integer, level_of_form, level_of_tail, opening_level,
+    ATOMIC, DEEPEST, LOOSEST, OUTERMOST, capped, function_of, infix_of, integer, operator_level,
     range_follows, to_right,
 };
 pub use joining::{joining_by, rightward};

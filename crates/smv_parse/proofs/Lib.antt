@@ -1,9 +1,3 @@
-pub mod RuleSteps
-pub mod RuleLoops
-pub mod ProgramExamples
-pub mod CommaLists
-pub mod TypeSteps
-pub mod ShapeSteps
-pub mod Flags
-pub mod SectionSteps
-pub mod ModuleSteps
+pub mod TextLaws
+pub mod TextVerdicts
+pub mod Places

@@ -1,6 +1,3 @@
 pub mod FirstForm
-pub mod ProgramSteps
-pub mod TypeSteps
-pub mod ShapeSteps
-pub mod SectionSteps
-pub mod ModuleSteps
+pub mod TextReading
+pub mod Halting

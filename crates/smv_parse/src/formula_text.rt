@@ -1,25 +1,29 @@
 ghost use Rattle.std.specs.Prelude.{IfErr, IfOk, Ok, Err};
 ghost use Rattle.smv_tree.specs.Models.{Claim, formula_claim};
-ghost use Rattle.smv_reading.specs.Halts.{Reads};
-ghost use Rattle.smv_grammar.specs.Texts.{ExplainsFormula, SpellsFormulaText};
-ghost use Rattle.smv_text_reading.specs.TextReading.{formula_of};
-ghost use Rattle.smv_text_reading.specs.Verdicts.{Answers, Unless, judged_by, verdict};
+ghost use Rattle.smv_reader.specs.Halts.{Reads};
+ghost use Rattle.smv_rules.specs.Verdicts.{Answers, Unless, judged_by, verdict};
+ghost use Rattle.smv_rules.specs.Texts.{ExplainsFormula, SpellsFormulaText};
+ghost use Rattle.smv_parse.specs.TextReading.{formula_of};
 
-use crate::parse::{fault_of, halt_fault};
-use smv_expr::formula::{at, group_flags};
+use crate::faults::{fault_of, halt_fault};
 use smv_grammar::{DEEPEST, OUTERMOST, ParseFault};
-use smv_reading::Halt;
+use smv_reader::{Reader, group_flags};
+use smv_reader::Halt;
 use smv_token::{ScannedText, Token, scan};
 use smv_tree::Formula;
 use std::alloc::{AllocError, Global};
 
 /// The formula of all tokens.
-#[tactic(auto, using(smv_text_reading::proofs::FormulaRests::all_flagged), unfolding(smv_text_reading::specs::TextReading::formula_of, smv_text_reading::specs::RuleReading::read_piece))]
-fn formula(alloc: Global, tokens: &[Token]) -> Result<Formula, Halt>
+#[tactic(auto, using(smv_reader::proofs::GroupFlags::all_flagged), unfolding(crate::specs::TextReading::formula_of))]
+fn whole_formula(alloc: Global, tokens: &[Token]) -> Result<Formula, Halt>
     ensures { Reads formula_claim result (formula_of tokens.now) }
 {
     let flags = group_flags(alloc, tokens)?;
-    let (part, rest) = at(alloc, flags.as_slice(), DEEPEST + 1, OUTERMOST, tokens)?;
+    let reader = Reader {
+        alloc,
+        room: DEEPEST,
+    };
+    let (part, rest) = reader.formula(flags.as_slice(), OUTERMOST, tokens)?;
     if !rest.is_empty() {
         return Err(Halt::Wrong(rest.len()));
     }
@@ -27,11 +31,11 @@ fn formula(alloc: Global, tokens: &[Token]) -> Result<Formula, Halt>
 }
 
 /// The verdict on the tokens of a text.
-#[tactic(auto, using(smv_text_reading::proofs::TextVerdicts::formula_within, smv_text_reading::proofs::TextVerdicts::formula_deep))]
-fn judge_formula(alloc: Global, text: &ScannedText) -> Result<Formula, ParseFault>
+#[tactic(auto, using(crate::proofs::TextVerdicts::formula_within, crate::proofs::TextVerdicts::formula_deep))]
+fn judge(alloc: Global, text: &ScannedText) -> Result<Formula, ParseFault>
     ensures { Answers formula_claim result (verdict text.now.tokens.items text.now.stop text.now.end (formula_of text.now.tokens.items)) }
 {
-    match formula(alloc, text.tokens.as_slice()) {
+    match whole_formula(alloc, text.tokens.as_slice()) {
         Ok(formula) => match text.stop {
             None => Ok(formula),
             Some((place, flaw)) => Err(fault_of(alloc, place, flaw)),
@@ -41,11 +45,11 @@ fn judge_formula(alloc: Global, text: &ScannedText) -> Result<Formula, ParseFaul
 }
 
 /// The verdict on a text.
-fn read_formula(alloc: Global, bytes: &[u8]) -> Result<Formula, ParseFault>
+fn read_text(alloc: Global, bytes: &[u8]) -> Result<Formula, ParseFault>
     ensures { Answers formula_claim result (judged_by formula_of bytes.now) }
 {
     let text = scan(alloc, bytes)?;
-    judge_formula(alloc, &text)
+    judge(alloc, &text)
 }
 
 /// The formula that a text spells.
@@ -64,5 +68,5 @@ pub fn parse_formula(alloc: Global, bytes: &[u8]) -> Result<Formula, ParseFault>
     // what has a fault is refused for it, unless memory runs out
     ensures cause { (f : ParseFault) → ExplainsFormula bytes.now f → Answers formula_claim result (Err f) }
 {
-    read_formula(alloc, bytes)
+    read_text(alloc, bytes)
 }

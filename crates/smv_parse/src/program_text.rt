@@ -1,31 +1,38 @@
 ghost use Rattle.std.specs.Prelude.{◌≤◌, IfErr, IfOk, List, Ok, Err, length};
 ghost use Rattle.smv_tree.specs.Models.{Body, bodies};
-ghost use Rattle.smv_reading.specs.Halts.{Reads};
-ghost use Rattle.smv_grammar.specs.Texts.{ExplainsProgram, SpellsProgram};
-ghost use Rattle.smv_text_reading.specs.TextReading.{modules_of};
-ghost use Rattle.smv_text_reading.specs.Verdicts.{Answers, Unless, judged_by, verdict};
+ghost use Rattle.smv_reader.specs.Halts.{Reads};
+ghost use Rattle.smv_rules.specs.Verdicts.{Answers, Unless, judged_by, verdict};
+ghost use Rattle.smv_rules.specs.Texts.{ExplainsProgram, SpellsProgram};
+ghost use Rattle.smv_parse.specs.TextReading.{modules_of};
 
-use crate::parse::{fault_of, halt_fault};
-use crate::program::program;
-use smv_expr::formula::group_flags;
-use smv_grammar::ParseFault;
-use smv_reading::Halt;
+use crate::faults::{fault_of, halt_fault};
+use smv_grammar::{DEEPEST, ParseFault};
+use smv_reader::{Reader, group_flags};
+use smv_reader::Halt;
 use smv_token::{ScannedText, Token, scan};
 use smv_tree::Program;
 use std::alloc::{AllocError, Global};
 
 /// The program of all tokens.
-#[tactic(auto, using(smv_text_reading::proofs::FormulaRests::all_flagged))]
+#[tactic(auto, using(smv_reader::proofs::GroupFlags::all_flagged), unfolding(crate::specs::TextReading::modules_of))]
 fn whole_program(alloc: Global, tokens: &[Token]) -> Result<Program, Halt>
     ensures { Reads bodies result (modules_of tokens.now) }
 {
     let flags = group_flags(alloc, tokens)?;
-    program(alloc, flags.as_slice(), tokens)
+    let reader = Reader {
+        alloc,
+        room: DEEPEST,
+    };
+    let (program, rest) = reader.program(flags.as_slice(), tokens)?;
+    if !rest.is_empty() {
+        return Err(Halt::Wrong(rest.len()));
+    }
+    Ok(program)
 }
 
 /// The verdict on the tokens of a text.
-#[tactic(auto, using(smv_text_reading::proofs::TextVerdicts::program_within, smv_text_reading::proofs::TextVerdicts::program_deep))]
-fn judge_program(alloc: Global, text: &ScannedText) -> Result<Program, ParseFault>
+#[tactic(auto, using(crate::proofs::TextVerdicts::program_within, crate::proofs::TextVerdicts::program_deep))]
+fn judge(alloc: Global, text: &ScannedText) -> Result<Program, ParseFault>
     ensures { Answers bodies result (verdict text.now.tokens.items text.now.stop text.now.end (modules_of text.now.tokens.items)) }
 {
     match whole_program(alloc, text.tokens.as_slice()) {
@@ -38,11 +45,11 @@ fn judge_program(alloc: Global, text: &ScannedText) -> Result<Program, ParseFaul
 }
 
 /// The verdict on a text.
-fn read_program(alloc: Global, bytes: &[u8]) -> Result<Program, ParseFault>
+fn read_text(alloc: Global, bytes: &[u8]) -> Result<Program, ParseFault>
     ensures { Answers bodies result (judged_by modules_of bytes.now) }
 {
     let text = scan(alloc, bytes)?;
-    judge_program(alloc, &text)
+    judge(alloc, &text)
 }
 
 /// The program that a text spells.
@@ -56,11 +63,11 @@ pub fn parse_model(alloc: Global, bytes: &[u8]) -> Result<Program, ParseFault>
     // what is read is spelled so
     ensures found { IfOk result (λ p. SpellsProgram bytes.now (bodies p)) }
     // what is spelled so is read, unless memory runs out
-    ensures only { (ms : List Body) → SpellsProgram bytes.now ms → Answers bodies result (Ok ms) }
+    ensures only { (x : List Body) → SpellsProgram bytes.now x → Answers bodies result (Ok x) }
     // what is refused has that fault
     ensures refused { IfErr result (λ f. Unless f (ExplainsProgram bytes.now f)) }
     // what has a fault is refused for it, unless memory runs out
     ensures cause { (f : ParseFault) → ExplainsProgram bytes.now f → Answers bodies result (Err f) }
 {
-    read_program(alloc, bytes)
+    read_text(alloc, bytes)
 }

@@ -2,7 +2,6 @@
 use Rattle.std.proofs.Common.{◌≡◌, ◌≤◌, ℕ, ℤ, pos, negsuc, Bool, true, false, cond, nat_eq, nat_lt, ◌||◌, List, [], ◌∷◌, ◌++◌, Option, Some, None, refl, sym, subst, arith, codes, decimal}
 use Rattle.std.specs.Str.{bytes_eq}
 use Rattle.std.proofs.lemmas.Bool.{ltb-false}
-use Rattle.smv_tree.specs.declared.place.Place.{Place}
 use Rattle.smv_tree.specs.declared.expr.Op1.TheVariants as op1
 use Rattle.smv_tree.specs.declared.expr.Op2.{Op2}
 use Rattle.smv_tree.specs.declared.expr.Op2.TheVariants as op2
@@ -13,7 +12,7 @@ use Rattle.smv_print.specs.declared.lead.Lead.TheVariants as lead
 use Rattle.smv_token.specs.declared.mark.Mark.TheVariants as marks
 use Rattle.smv_token.specs.declared.token.Lexeme.TheVariants as lexeme
 use Rattle.smv_print.specs.Beside.{Stops, first_byte, first_of}
-use Rattle.smv_grammar.specs.Forms.{left_level, level_of, tail_by}
+use Rattle.smv_grammar.specs.Forms.{left_level, operator_level}
 use Rattle.smv_token.specs.Marks.{text}
 use Rattle.smv_token.specs.Numbers.{is_decimal}
 use Rattle.smv_print.specs.Printing.{Ink, bare, blank, integer, is_negation, level, mark_of_two, misread, part, path, path_head, lexeme_text, symbol, token, word_head, word_text}
@@ -130,9 +129,9 @@ below_negation x h = by (is_negation x) refl where
   by true e = let l = negation_level x e in absurd (omega arith)
 
 -- no operator of two operands is of level 4
-two_level : (p : Place) (o : Op2) → level_of (tail_by p (mark_of_two o)) ≤ 4 → left_level (level_of (tail_by p (mark_of_two o))) ≤ 3
-two_level p op2.Concat h = omega arith
-two_level p o h = absurd (omega arith)
+two_level : (o : Op2) → operator_level (mark_of_two o) ≤ 4 → left_level (operator_level (mark_of_two o)) ≤ 3
+two_level op2.Concat h = omega arith
+two_level o h = absurd (omega arith)
 
 path_no_minus : (ns : List (List ℕ)) (end : Option ℕ) → OwnPath ns → NoMinus (first_byte (path ns) end)
 path_no_minus [] end h = absurd h
@@ -160,7 +159,7 @@ no_minus (one p op1.Not a) end h l n m = refl
 no_minus (one p op1.Neg a) end h l n m = absurd (cc)
 no_minus (one p o a) end h l n m = refl
 no_minus (two p o a b) end h l n m =
-    let k = two_level p o l in
+    let k = two_level o l in
     no_minus_append (part lead.Minus (left_level (level (two p o a b))) a (λ k. bare a k)) _ end (λ q. part_no_minus (left_level (level (two p o a b))) a q (λ i j. no_minus a q h.0 (omega (arith, i, k)) (below_negation a (omega (arith, i, k))) j))
 no_minus (select p a high low) end h l n m = no_minus_append (part lead.Minus 1 a (λ k. bare a k)) _ end (λ q. part_no_minus 1 a q (λ i j. no_minus a q h.0 (omega (arith, i)) (below_negation a (omega (arith, i))) j))
 no_minus (next p a) end h l n m = refl

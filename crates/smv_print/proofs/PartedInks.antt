@@ -1,5 +1,5 @@
 -- What is printed of expressions is parted well.
-use Rattle.std.proofs.Common.{◌≡◌, if◌then◌else◌, ◌≤◌, ℕ, suc, ℤ, pos, negsuc, Bool, true, false, cond, nat_lt, ◌||◌, List, [], ◌∷◌, ◌++◌, Option, Some, None, refl, sym, subst, codes, decimal}
+use Rattle.std.proofs.Common.{◌≡◌, if◌then◌else◌, ◌≤◌, ℕ, suc, ℤ, pos, negsuc, Bool, true, false, cond, nat_lt, ◌||◌, List, [], ◌∷◌, ◌++◌, Option, Some, None, refl, sym, subst, codes, decimal, arith}
 use Rattle.std.specs.Str.{bytes_eq}
 use Rattle.smv_tree.specs.declared.expr.Op1.TheVariants as op1
 use Rattle.smv_tree.specs.Trees.{Tree, Trees, Arms, truth, number, word, name, span, set, cases, choice, one, two, select, next, widen, const, count, no_trees, tree, no_arms, arm}
@@ -12,7 +12,7 @@ use Rattle.smv_print.specs.Beside.{Stands, Stops, WellParted, first_byte, first_
 use Rattle.smv_grammar.specs.Forms.{left_level}
 use Rattle.smv_token.specs.Marks.{text}
 use Rattle.smv_print.specs.Printing.{Ink, after_comma, around, bare, blank, branches, call, constant, dotted, gap, integer, is_negation, level, listed, mark_of_one, mark_of_two, misread, part, path, path_head, right_level, symbol, token, widening, width}
-use Rattle.smv_print.specs.Scannables.{ArmsScannable, EachScannable, OwnNames, OwnPath, Scannable, Scannables, Signed, first_is, greatest}
+use Rattle.smv_print.specs.Scannables.{ArmsScannable, EachScannable, OwnNames, OwnPath, Scannable, Scannables, Signed, first_is, greatest, widest}
 use Rattle.smv_token.specs.Tokens.{begins_name, continues_name}
 use Rattle.smv_print.proofs.InkFronts.{Begins, NoMinus, begins, begins_part, first_append, no_minus, number_begins, part_begins, part_no_minus}
 use Rattle.smv_print.proofs.ReadMarks.{apart}
@@ -141,6 +141,10 @@ call_parted m inks end s h = (s, bracketed_by h) where
   bracketed_by : WellParted inks (Some 41) → WellParted (symbol marks.OpenRound ∷ (inks ++ symbol marks.CloseRound ∷ [])) end
   bracketed_by h = (open_round _, parted_append inks (symbol marks.CloseRound ∷ []) end h (close_round end, tt))
 
+-- what is no greater than a width is a token's number
+within : (n : ℕ) → n ≤ widest → n ≤ greatest
+within n h = omega (arith, h)
+
 width_parted : (n : ℕ) (end : Option ℕ) → n ≤ greatest → WellParted (width n) end
 unfolding text
 width_parted n end h = (before_blank marks.Comma, (number_stands n (Some 41) h refl, (close_round end, tt)))
@@ -184,8 +188,8 @@ mutual
   parted (word p w) l end h f = (record { scannable = h; stops = f }, tt)
   parted (name p ns) l end h f = path_parted ns end h f
   parted (span p low high) l end h f = parted_append (integer low) (symbol marks.Dots ∷ integer high) end (integer_parted low (Some 46) h.0 refl) (dots_stand _, integer_parted high end h.1 f)
-  parted (set p es) l end h f = (open_curly _, parted_append (listed es) (symbol marks.CloseCurly ∷ []) end (listed_parted es (Some 125) h refl) (close_curly end, tt))
-  parted (cases p bs) l end h f = (before_blank marks.Case, parted_append (branches bs) (symbol marks.Esac ∷ []) end (branches_parted bs (Some 101) h) (mark_stands marks.Esac end f, tt))
+  parted (set p es) l end h f = (open_curly _, parted_append (listed es) (symbol marks.CloseCurly ∷ []) end (listed_parted es (Some 125) h.1 refl) (close_curly end, tt))
+  parted (cases p bs) l end h f = (before_blank marks.Case, parted_append (branches bs) (symbol marks.Esac ∷ []) end (branches_parted bs (Some 101) h.1) (mark_stands marks.Esac end f, tt))
   parted (choice p c a b) l end h f =
       let l' = left_level 13 in
       let r' = right_level 13 in
@@ -200,11 +204,11 @@ mutual
       around_parted (part l l' a (λ k. bare a k)) (part lead.Free r' b (λ k. bare b k)) (mark_of_two o) end (part_parted l l' a (Some 32) (λ k e g. parted a k e h.0 g) refl) (part_parted lead.Free r' b end (λ k e g. parted b k e h.1 g) f)
   parted (select p a high low) l end h f =
       parted_append (part l 1 a (λ k. bare a k)) _ end (part_parted l 1 a (Some 91) (λ k e g. parted a k e h.0 g) refl)
-      (open_square _, (number_stands high (Some 58) h.1 refl, (colon_stands _ (number_begins low h.2).0, (number_stands low (Some 93) h.2 refl, (close_square end, tt)))))
+      (open_square _, (number_stands high (Some 58) (within high h.1) refl, (colon_stands _ (number_begins low (within low h.2)).0, (number_stands low (Some 93) (within low h.2) refl, (close_square end, tt)))))
   parted (next p a) l end h f = call_parted marks.Next (bare a lead.Free) end (mark_stands marks.Next (Some 40) refl) (parted a lead.Free (Some 41) h refl)
-  parted (widen p resize a n) l end h f = (widening_stands resize, (open_round _, parted_append (bare a lead.Free) (width n) end (parted a lead.Free (Some 44) h.0 refl) (width_parted n end h.1)))
-  parted (const p signed v n) l end h f = (constant_stands signed, (open_round _, parted_append (integer v) (width n) end (integer_parted v (Some 44) h.0 refl) (width_parted n end h.1)))
-  parted (count p es) l end h f = call_parted marks.Count (listed es) end (mark_stands marks.Count (Some 40) refl) (listed_parted es (Some 41) h refl)
+  parted (widen p resize a n) l end h f = (widening_stands resize, (open_round _, parted_append (bare a lead.Free) (width n) end (parted a lead.Free (Some 44) h.0 refl) (width_parted n end (within n h.1))))
+  parted (const p signed v n) l end h f = (constant_stands signed, (open_round _, parted_append (integer v) (width n) end (integer_parted v (Some 44) h.0 refl) (width_parted n end (within n h.1))))
+  parted (count p es) l end h f = call_parted marks.Count (listed es) end (mark_stands marks.Count (Some 40) refl) (listed_parted es (Some 41) h.1 refl)
 
   listed_parted : (xs : Trees) (end : Option ℕ) → EachScannable xs → Follows end → WellParted (listed xs) end
   listed_parted no_trees end h f = tt

@@ -9,7 +9,6 @@ use Rattle.smv_token.specs.declared.token.Flaw.{Flaw}
 use Rattle.smv_token.specs.declared.token.Token.{Token}
 use Rattle.smv_print.specs.Beside.{ReadBack, WellParted, first_byte}
 use Rattle.smv_token.specs.Marks.{text}
-use Rattle.smv_grammar.specs.Texts.{SpellsExpr, SpellsFormulaText}
 use Rattle.smv_print.specs.Printing.{bare, claim_inks, claim_level, claim_part, level_of_claim, mark_of_claim, symbol}
 use Rattle.smv_grammar.specs.Formulas.{left_of, right_of}
 use Rattle.smv_print.specs.Scannables.{AllScannable, ClaimScannable, Scannables}
@@ -18,7 +17,6 @@ use Rattle.smv_print.proofs.InkFronts.{Begins, begins, begins_append, part_begin
 use Rattle.smv_print.proofs.PartedInks.{Follows, around_parted, bang_stands, before_blank, bracketed, part_parted, parted}
 use Rattle.smv_print.proofs.ReadInks.{read_back}
 use Rattle.smv_print.proofs.ScannedTokens.{scanned_scannable}
-use Rattle.smv_print.proofs.SpelledNames.{all_split, claim_scannable, spelled_scannable}
 
 -- the text of an expression, where its names, numbers and words are those of tokens
 pub printed_scanned : (x : Tree) → Scannables x → ReadBack (bare x lead.Free)
@@ -71,16 +69,5 @@ whole_scannable s ts h e = by s.stop refl e where
   by None is e = let same : s.tokens ≡ ts = cc in subst AllScannable same (h is)
   by (Some f) is e = absurd (cc)
 
-text_scannable : (bytes : List ℕ) (ts : List Token) → tokens_of bytes ≡ Some ts → AllScannable ts
+pub text_scannable : (bytes : List ℕ) (ts : List Token) → tokens_of bytes ≡ Some ts → AllScannable ts
 text_scannable bytes ts e = whole_scannable (scanned bytes) ts (scanned_scannable bytes) e
-
--- what is printed of an expression that a text spells is read back
-pub expression_read_back : (bytes : List ℕ) (x : Tree) → SpellsExpr bytes x → ReadBack (bare x lead.Free)
-expression_read_back bytes x s =
-    let given = s.spelled in
-    let all = subst AllScannable given.split (text_scannable bytes s.tokens s.scanned) in
-    printed_scanned x (spelled_scannable given.spelled (all_split given.used [] all).0)
-
--- and so is what is printed of a formula
-pub formula_read_back : (bytes : List ℕ) (c : Claim) → SpellsFormulaText bytes c → ReadBack (claim_inks c)
-formula_read_back bytes c s = let given = s.spelled in claim_scanned c (claim_scannable given.spelled (text_scannable bytes s.tokens s.scanned))

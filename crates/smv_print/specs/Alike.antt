@@ -1,5 +1,5 @@
 -- Trees that agree, places aside, and the tokens that are printed.
-use Rattle.std.specs.Prelude.{◌≡◌, ◌≤◌, ℕ, List, [], ◌∷◌, map}
+use Rattle.std.specs.Prelude.{◌≡◌, ℕ, List, [], ◌∷◌, map}
 use Rattle.std.specs.Io.KnownBytes.{append_known}
 use Rattle.outside.specs.Told.{Output}
 use Rattle.smv_tree.specs.declared.place.Place.{Place}
@@ -7,10 +7,9 @@ use Rattle.smv_tree.specs.Models.{Claim, atom, no, after, always, some_time, bot
 use Rattle.smv_tree.specs.Trees.{Tree, Trees, Arms, truth, number, word, name, span, set, cases, choice, one, two, select, next, widen, const, count, no_trees, tree, no_arms, arm}
 use Rattle.smv_token.specs.declared.token.Token.{Token}
 use Rattle.smv_token.specs.declared.token.Lexeme.{Lexeme}
-use Rattle.smv_grammar.specs.Forms.{loosest}
-use Rattle.smv_grammar.specs.Formulas.{SpellsFormula, outermost}
-use Rattle.smv_grammar.specs.Grammar.{Spells}
-use Rattle.smv_grammar.specs.Texts.{SpellsExpr, SpellsFormulaText}
+use Rattle.smv_rules.specs.Expressions.{expr}
+use Rattle.smv_rules.specs.Sorts.{Expression, Formula}
+use Rattle.smv_rules.specs.Texts.{SpellsBy, formula}
 use Rattle.smv_print.specs.Printing.{Ink, blank, claim_printed, printed, token}
 
 -- the place that stands for each place
@@ -74,46 +73,30 @@ inked (token l ∷ is) = l ∷ inked is
 abbrev pub Laid : List Token → List Ink → Type 0
 Laid ts is = (lexemes ts ≡ inked is)
 
--- the tokens spell an expression alike, and no deeper
-pub record SpellsAlike (ts : List Token) (x : Tree) (d : ℕ) : Type 0 where
-  pub tree : Tree
-  pub depth : ℕ
-  pub spelled : Spells loosest ts tree depth
-  pub alike : Alike x tree
-  pub small : depth ≤ d
-
--- the tokens spell a formula alike, and no deeper
-pub record SpellsAlikeFormula (ts : List Token) (c : Claim) (d : ℕ) : Type 0 where
-  pub claim : Claim
-  pub depth : ℕ
-  pub spelled : SpellsFormula outermost ts [] claim depth
-  pub alike : AlikeClaims c claim
-  pub small : depth ≤ d
-
 -- what is printed of the expression is a text that spells it, places aside
 pub record Reparsed (x : Tree) : Type 0 where
-  pub tree : Tree
-  pub spelled : SpellsExpr (printed x) tree
-  pub alike : Alike x tree
+  pub given : Expression
+  pub spelled : SpellsBy expr (printed x) given
+  pub alike : Alike x given.tree
 
 -- what is printed of the formula is a text that spells it, places aside
 pub record ReparsedFormula (c : Claim) : Type 0 where
-  pub claim : Claim
-  pub spelled : SpellsFormulaText (claim_printed c) claim
-  pub alike : AlikeClaims c claim
+  pub given : Formula
+  pub spelled : SpellsBy formula (claim_printed c) given
+  pub alike : AlikeClaims c given.claim
 
 -- what was written is a text that spells the expression, places aside
 pub record WroteAlike (old new : Output) (x : Tree) : Type 0 where
   pub text : List ℕ
   pub written : new.written ≡ append_known old.written text
-  pub tree : Tree
-  pub spelled : SpellsExpr text tree
-  pub alike : Alike x tree
+  pub given : Expression
+  pub spelled : SpellsBy expr text given
+  pub alike : Alike x given.tree
 
 -- what was written is a text that spells the formula, places aside
 pub record WroteAlikeFormula (old new : Output) (c : Claim) : Type 0 where
   pub text : List ℕ
   pub written : new.written ≡ append_known old.written text
-  pub claim : Claim
-  pub spelled : SpellsFormulaText text claim
-  pub alike : AlikeClaims c claim
+  pub given : Formula
+  pub spelled : SpellsBy formula text given
+  pub alike : AlikeClaims c given.claim

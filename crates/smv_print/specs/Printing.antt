@@ -17,7 +17,7 @@ use Rattle.smv_token.specs.declared.mark.Mark.{Mark}
 use Rattle.smv_token.specs.declared.mark.Mark.TheVariants as marks
 use Rattle.smv_token.specs.declared.token.Lexeme.{Lexeme}
 use Rattle.smv_token.specs.declared.token.Lexeme.TheVariants as lexeme
-use Rattle.smv_grammar.specs.Forms.{form, left_level, level_of, own_level, tail_by, to_right}
+use Rattle.smv_grammar.specs.Forms.{left_level, level_of, operator_level, to_right}
 use Rattle.smv_grammar.specs.Formulas.{atomic, joining_by, left_of, right_of}
 use Rattle.smv_token.specs.Marks.{text}
 
@@ -90,11 +90,17 @@ mark_of_two op2.Xnor = marks.Xnor
 mark_of_two op2.Iff = marks.Iff
 mark_of_two op2.Implies = marks.Arrow
 
+-- the level of an operator or a function of one operand
+abbrev pub level_of_one : Op1 → ℕ
+level_of_one op1.Not = 2
+level_of_one op1.Neg = 4
+level_of_one o = 1
+
 -- the level of an expression: that of its operator, or 1
 abbrev pub level : Tree → ℕ
-level (choice p c a b) = level_of (tail_by p marks.Question)
-level (one p o a) = own_level (form p false (mark_of_one o))
-level (two p o a b) = level_of (tail_by p (mark_of_two o))
+level (choice p c a b) = 13
+level (one p o a) = level_of_one o
+level (two p o a b) = operator_level (mark_of_two o)
 level x = 1
 
 -- the level that the place to the right of an operator asks

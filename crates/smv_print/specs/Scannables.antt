@@ -1,4 +1,4 @@
--- The lexemes that texts have, and the trees whose names, numbers and words are such.
+-- The lexemes that texts have, and the trees and formulas that texts can spell.
 use Rattle.std.specs.Prelude.{◌≡◌, ◌<◌, ◌≤◌, ◌^◌, ℕ, suc, ℤ, pos, negsuc, Bool, true, false, List, [], ◌∷◌, None, length}
 use Rattle.std.specs.List.{list_all}
 use Rattle.smv_tree.specs.Models.{Claim, atom, no, after, always, some_time, both}
@@ -42,6 +42,10 @@ Scannable (lexeme.Name n) = OwnName n
 Scannable (lexeme.Number n) = n ≤ greatest
 Scannable (lexeme.Word w) = OwnWord w
 
+-- the greatest width, and the greatest place of a bit
+abbrev pub widest : ℕ
+widest = 4294967295
+
 -- a number with a sign or not
 abbrev pub Signed : ℤ → Type 0
 Signed (pos n) = n ≤ greatest
@@ -57,24 +61,32 @@ abbrev pub OwnPath : List (List ℕ) → Type 0
 OwnPath [] = ⊥
 OwnPath (n ∷ ns) = Scannable (path_head n) × OwnNames ns
 
+abbrev pub SomeTrees : Trees → Type 0
+SomeTrees no_trees = ⊥
+SomeTrees (tree x xs) = Unit {0}
+
+abbrev pub SomeArms : Arms → Type 0
+SomeArms no_arms = ⊥
+SomeArms (arm c v bs) = Unit {0}
+
 unfoldable mutual
-  -- each name, number and word of an expression is that of a token
+  -- each name, number and word of an expression is that of a token, and no list of parts is empty
   pub Scannables : Tree → Type 0
   Scannables (truth p b) = Unit {0}
   Scannables (number p n) = n ≤ greatest
   Scannables (word p w) = OwnWord w
   Scannables (name p ns) = OwnPath ns
   Scannables (span p low high) = Signed low × Signed high
-  Scannables (set p es) = EachScannable es
-  Scannables (cases p bs) = ArmsScannable bs
+  Scannables (set p es) = SomeTrees es × EachScannable es
+  Scannables (cases p bs) = SomeArms bs × ArmsScannable bs
   Scannables (choice p c a b) = Scannables c × Scannables a × Scannables b
   Scannables (one p o a) = Scannables a
   Scannables (two p o a b) = Scannables a × Scannables b
-  Scannables (select p a high low) = Scannables a × (high ≤ greatest) × (low ≤ greatest)
+  Scannables (select p a high low) = Scannables a × (high ≤ widest) × (low ≤ widest)
   Scannables (next p a) = Scannables a
-  Scannables (widen p resize a n) = Scannables a × (n ≤ greatest)
-  Scannables (const p signed v n) = Signed v × (n ≤ greatest)
-  Scannables (count p es) = EachScannable es
+  Scannables (widen p resize a n) = Scannables a × (n ≤ widest)
+  Scannables (const p signed v n) = Signed v × (n ≤ widest)
+  Scannables (count p es) = SomeTrees es × EachScannable es
 
   -- that of each expression
   pub EachScannable : Trees → Type 0

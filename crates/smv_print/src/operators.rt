@@ -3,27 +3,12 @@
 ghost use Rattle.std.specs.Prelude.{◌≡◌};
 ghost use Rattle.smv_tree.specs.Trees.{expr_tree};
 ghost use Rattle.smv_grammar.specs.Forms.{left_level};
-ghost use Rattle.smv_print.specs.Printing.{is_negation, level, mark_of_one, mark_of_two, misread, right_level};
+ghost use Rattle.smv_print.specs.Printing.{is_negation, level, level_of_one, mark_of_two, misread, right_level};
 
 use crate::lead::Lead;
-use smv_grammar::{level_of_form, level_of_tail, to_right};
+use smv_grammar::{operator_level, to_right};
 use smv_token::Mark;
 use smv_tree::{Expr, Op1, Op2};
-
-/// The mark that is written for an operator or a function of one operand.
-fn mark_of_one(op: Op1) -> Mark
-    ensures { result ≡ mark_of_one op }
-{
-    match op {
-        Op1::Not => Mark::Bang,
-        Op1::Neg => Mark::Minus,
-        Op1::Word1 => Mark::WordOne,
-        Op1::Bool => Mark::BoolOf,
-        Op1::Signed => Mark::Signed,
-        Op1::Unsigned => Mark::Unsigned,
-        Op1::ToInt => Mark::ToInt,
-    }
-}
 
 /// The mark that is written for an operator of two operands.
 pub fn mark_of_two(op: Op2) -> Mark
@@ -55,14 +40,25 @@ pub fn mark_of_two(op: Op2) -> Mark
     }
 }
 
+/// The level of an operator or a function of one operand.
+fn level_of_one(op: Op1) -> u32
+    ensures { result ≡ level_of_one op }
+{
+    match op {
+        Op1::Not => 2,
+        Op1::Neg => 4,
+        _ => 1,
+    }
+}
+
 /// The level of an expression: that of its operator, or 1.
 pub fn level(e: &Expr) -> u32
     ensures { result ≡ level (expr_tree e.now) }
 {
     match e {
-        Expr::If(place, _, _, _) => level_of_tail(*place, Mark::Question),
-        Expr::One(place, op, _) => level_of_form(*place, false, mark_of_one(*op)),
-        Expr::Two(place, op, _, _) => level_of_tail(*place, mark_of_two(*op)),
+        Expr::If(_, _, _, _) => 13,
+        Expr::One(_, op, _) => level_of_one(*op),
+        Expr::Two(_, op, _, _) => operator_level(mark_of_two(*op)),
         _ => 1,
     }
 }

@@ -8,7 +8,9 @@ ghost use Rattle.smv_token.specs.declared.mark.Mark.TheVariants as marks;
 ghost use Rattle.smv_print.specs.Alike.{WroteAlike};
 ghost use Rattle.smv_grammar.specs.Branches.{arm_of};
 ghost use Rattle.smv_print.specs.Printing.{around, bare, branches, call, blank, gap, integer, listed, numeral, printed, spelled, symbol, width};
-ghost use Rattle.smv_grammar.specs.Texts.{SpellsExpr};
+ghost use Rattle.smv_rules.specs.Expressions.{expr};
+ghost use Rattle.smv_rules.specs.Sorts.{Expression};
+ghost use Rattle.smv_rules.specs.Texts.{SpellsBy};
 ghost use Rattle.smv_print.specs.Written.{Prints, left_inks, right_inks, separator, then_inks};
 
 use crate::ink::{
@@ -347,7 +349,7 @@ fn put_bare<S: Sink>(out: &mut S, lead: Lead, e: &Expr) -> Result<(), Failed>
 pub fn print_expr<S: Sink>(e: &Expr, out: &mut S) -> Result<(), Failed>
     ensures written { Writes (printed (expr_tree e.now)) (S.told out.old) result (S.told out.new) }
     // what is written of an expression that a text spells is a text that spells it again, places aside
-    ensures again { (bytes : List ℕ) → SpellsExpr bytes (expr_tree e.now) → OnOk result (WroteAlike (S.told out.old) (S.told out.new) (expr_tree e.now)) }
+    ensures again { (bytes : List ℕ) (x : Expression) → SpellsBy expr bytes x → x.tree ≡ expr_tree e.now → OnOk result (WroteAlike (S.told out.old) (S.told out.new) (expr_tree e.now)) }
 {
     put_bare(out, Lead::Free, e)
 }

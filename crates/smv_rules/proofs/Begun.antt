@@ -1,7 +1,7 @@
 -- What takes a token before it ends or is too deep.
 use Rattle.std.proofs.Common.{◌≡◌, ◌<◌, ℕ, List, length, arith}
 use Rattle.smv_token.specs.declared.token.Token.{Token}
-use Rattle.smv_grammar.proofs.Rests.{rest_length}
+use Rattle.smv_rules.proofs.Rests.{rest_length}
 use Rattle.smv_rules.specs.Sorts.{Gift, Sort}
 use Rattle.smv_rules.specs.Rules.{Rule, gives, too_deep, must, may, part, then, again}
 use Rattle.smv_rules.specs.Expressions.{expr, level}

@@ -10,7 +10,6 @@ use Rattle.smv_token.specs.declared.token.Lexeme.{Lexeme}
 use Rattle.smv_token.specs.declared.token.Lexeme.TheVariants as lexeme
 use Rattle.smv_grammar.specs.Forms.{begins_range, capped, is_number, is_dots}
 use Rattle.smv_grammar.specs.IsMark.{is_mark, same_mark}
-use Rattle.smv_reading.proofs.Tells.{is_mark_true}
 use Rattle.smv_rules.specs.Keys.{Key, Opener, Primary, Unseen, begins_with, below, if_there, number_of, opens, present, primary_by, primary_of, round, set, branches, count, next, function, widen, const, sees, with_place}
 use Rattle.smv_rules.specs.Keys as key
 use Rattle.smv_rules.specs.Sorts.{Branches, Expression, Gift, Operands, Sort, an_expression, some_branches, some_operands}
@@ -20,7 +19,7 @@ use Rattle.smv_rules.specs.Table.{table}
 use Rattle.smv_rules.specs.Follows.{Follows, plain}
 use Rattle.smv_rules.proofs.Plain.{Begins, Clear, Seen, Starts, clear_less, starts_law}
 use Rattle.smv_rules.proofs.Inverting.{Inverted, inverted}
-use Rattle.smv_rules.proofs.Firsts.{Closed, closed_less, closed_mark, primary_no_mark, seen_closed, seen_other, tail_level}
+use Rattle.smv_rules.proofs.Firsts.{Closed, closed_less, closed_mark, is_mark_true, primary_no_mark, seen_closed, seen_other, tail_level}
 use Rattle.smv_rules.proofs.ClearExpressions.{begins_starts, deeper_begins, deeper_clear, infix_clear, int_clear, mark_begins, primary_clear}
 
 -- the parts that are nested once more

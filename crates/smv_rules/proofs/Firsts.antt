@@ -1,16 +1,17 @@
 -- What tokens begin with, and what that is not.
 use Rattle.std.proofs.Common.{◌≡◌, ◌<◌, ◌≤◌, ◌==◌, ℕ, Bool, true, false, cond, List, [], ◌∷◌, Option, Some, None, refl, sym, ◌∙◌, ap, arith}
 use Rattle.std.proofs.lemmas.Bool.{eqb-true}
+use denote.Enum.Bare.{same_true}
 use Rattle.smv_tree.specs.declared.expr.Op2.{Op2}
 use Rattle.smv_tree.specs.declared.place.Place.{Place}
+use Rattle.smv_token.specs.contracts.mark.Mark.{the_type}
 use Rattle.smv_token.specs.declared.mark.Mark.{Mark}
 use Rattle.smv_token.specs.declared.mark.Mark.TheVariants as marks
 use Rattle.smv_token.specs.declared.token.Token.{Token}
 use Rattle.smv_token.specs.declared.token.Lexeme.{Lexeme}
 use Rattle.smv_token.specs.declared.token.Lexeme.TheVariants as lexeme
 use Rattle.smv_grammar.specs.Forms.{infix_of}
-use Rattle.smv_grammar.specs.IsMark.{is_mark}
-use Rattle.smv_reading.proofs.Tells.{is_mark_true}
+use Rattle.smv_grammar.specs.IsMark.{is_mark, same_mark}
 use Rattle.smv_rules.specs.Keys.{Primary, Unseen, by_mark, if_there, mark, mark_of, number, number_of, of_level, operator, present, primary, primary_by, primary_of, sees, with_place}
 use Rattle.smv_rules.proofs.Plain.{Seen}
 
@@ -46,6 +47,13 @@ pub closed_less : (l k : ℕ) (us : List Token) → k ≤ l → Closed l us → 
 unfolding Closed
 closed_less l k [] le h = tt
 closed_less l k (t ∷ ts) le h = omega (arith, le, h)
+
+pub is_mark_true : (m : Mark) (x : Lexeme) → is_mark m x ≡ true → x ≡ lexeme.Mark m
+unfolding same_mark
+is_mark_true m (lexeme.Mark n) e = ap lexeme.Mark (sym (same_true the_type tt m n e))
+is_mark_true m (lexeme.Name n) e = absurd (cc)
+is_mark_true m (lexeme.Number n) e = absurd (cc)
+is_mark_true m (lexeme.Word w) e = absurd (cc)
 
 no_true : (b : Bool) → b ≡ false → b ≡ true → ⊥
 no_true b e f = absurd (cc)

@@ -1,8 +1,11 @@
+pub mod Rests
+pub mod Outcomes
 pub mod Ways
 pub mod Told
 pub mod Meeting
 pub mod Begun
 pub mod Deciding
+pub mod Judging
 pub mod Verdicts
 pub mod Plain
 pub mod Firsts
@@ -12,4 +15,3 @@ pub mod ClearLevels
 pub mod PlainLaws
 pub mod ClearFormulas
 pub mod ClearPrograms
-pub mod Examples

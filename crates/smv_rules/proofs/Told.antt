@@ -1,10 +1,9 @@
 -- What is read by a rule is what the rule says, and where reading stops the rule has led there.
 use Rattle.std.proofs.Common.{◌≡◌, ◌≤◌, ℕ, zero, suc, List, [], ◌∷◌, length, Option, Some, None, Ok, Err, refl, arith}
 use Rattle.smv_token.specs.declared.token.Token.{Token}
-use Rattle.smv_reading.specs.Reading.{wrong, deep, ◌>>=◌}
-use Rattle.smv_text_reading.specs.RuleReading.{Got}
-use Rattle.smv_text_reading.proofs.Pieces.{TellsOf}
-use Rattle.smv_grammar.proofs.Rests.{rest_length}
+use Rattle.smv_rules.specs.Reading.{wrong, deep, ◌>>=◌, Got}
+use Rattle.smv_rules.proofs.Outcomes.{TellsOf}
+use Rattle.smv_rules.proofs.Rests.{rest_length}
 use Rattle.smv_rules.specs.Keys.{Key, Payload, sees}
 use Rattle.smv_rules.specs.Sorts.{Gift, Sort}
 use Rattle.smv_rules.specs.Rules.{Rule, gives, too_deep, must, may, part, then, again}

@@ -1,7 +1,7 @@
 -- What a rule spells and where it leads to are rests of the tokens, and each place on a way is reached.
 use Rattle.std.proofs.Common.{◌≡◌, ℕ, List, ◌∷◌, sym, subst, inl, inr}
 use Rattle.smv_token.specs.declared.token.Token.{Token}
-use Rattle.smv_grammar.proofs.Rests.{Rest, either, rest_behind, rest_both, rest_more, rest_same, rest_trans}
+use Rattle.smv_rules.proofs.Rests.{Rest, either, rest_behind, rest_both, rest_more, rest_same, rest_trans}
 use Rattle.smv_rules.specs.Sorts.{Gift, Sort}
 use Rattle.smv_rules.specs.Rules.{Rule, gives, too_deep, must, may, again}
 use Rattle.smv_rules.specs.Follows.{by_token, End, anywhere, Follows, done, has, takes, skips, nests, stays, chains, stops, goes_on, Leads, here, deep_here, past_token, past_taken, past_skipped, in_part, in_other, in_first, past_first, in_next, past_next}

@@ -6,6 +6,8 @@ pub mod Formulas
 pub mod Programs
 pub mod Table
 pub mod Follows
+pub mod Reading
 pub mod Running
 pub mod Texts
+pub mod Verdicts
 pub mod WholeReading

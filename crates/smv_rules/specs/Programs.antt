@@ -1,5 +1,5 @@
 -- The grammar of programs.
-use Rattle.std.specs.Prelude.{◌++◌, ℕ, Bool, true, false, List, [], ◌∷◌, Option, Some, None}
+use Rattle.std.specs.Prelude.{◌++◌, ℕ, min, Bool, true, false, List, [], ◌∷◌, Option, Some, None}
 use Rattle.smv_tree.specs.declared.place.Place.{Place}
 use Rattle.smv_tree.specs.declared.program.Kind.{Kind}
 use Rattle.smv_tree.specs.declared.program.Moment.{Moment}
@@ -12,13 +12,20 @@ use Rattle.smv_tree.specs.Models.{Body, Formal, Part, plain, instance, variable,
 use Rattle.smv_token.specs.declared.mark.Mark.TheVariants as marks
 use Rattle.smv_grammar.specs.Forms.{integer}
 use Rattle.smv_grammar.specs.Formulas.{outermost}
-use Rattle.smv_grammar.specs.Programs.{formal, width}
 use Rattle.smv_rules.specs.Keys.{Heading, Target, variables, definitions, assignments, constraints, properties, itself, of_moment}
 use Rattle.smv_rules.specs.Keys as key
 use Rattle.smv_rules.specs.Rules.{Rule, gives, must, may, again, ◌>>=◌}
 use Rattle.smv_rules.specs.Expressions.{an_int, expr, mark, name, number, operands, optional}
 use Rattle.smv_rules.specs.Formulas.{formula_level}
 use Rattle.smv_rules.specs.Sorts.{a_shape, a_value, some_bodies, some_formals, some_parts, some_values}
+
+-- the width of a word; what is above 255 stands as that
+abbrev pub width : ℕ → ℕ
+width n = min n 255
+
+-- a formal parameter
+abbrev pub formal : List ℕ → Place → Formal
+formal n p = record { name = n; place = p }
 
 -- elem: a name or an int
 abbrev pub an_elem : Rule a_value
@@ -65,12 +72,16 @@ a_type =
     (may a_shape (key.mark marks.Unsigned) (λ p. mark marks.WordType >>= (λ q. sized p false))
     (may a_shape (key.mark marks.Signed) (λ p. mark marks.WordType >>= (λ q. sized p true)) a_range)))))
 
--- [ expr { , expr }* ] ")"
-abbrev pub actuals : List ℕ → Place → Rule a_shape
-actuals m p = may a_shape (key.mark marks.CloseRound) (λ q. gives a_shape (instance m p [])) (do
+-- expr { , expr }* ")"
+abbrev pub some_actuals : List ℕ → Place → Rule a_shape
+some_actuals m p = do
   xs ← operands
   q ← mark marks.CloseRound
-  gives a_shape (instance m p xs.trees))
+  gives a_shape (instance m p xs.trees)
+
+-- [ expr { , expr }* ] ")"
+abbrev pub actuals : List ℕ → Place → Rule a_shape
+actuals m p = may a_shape (key.mark marks.CloseRound) (λ q. gives a_shape (instance m p [])) (some_actuals m p)
 
 -- instance: name [ "(" [ expr { , expr }* ] ")" ], behind the name
 abbrev pub instantiated : List ℕ → Place → Rule a_shape
@@ -136,12 +147,16 @@ specified ps n p = do
   q ← optional marks.Semicolon
   with_part ps (property n p x.claim)
 
--- [ NAME name := ] formula [ ; ]
-abbrev pub a_property : List Part → Place → Rule some_parts
-a_property ps p = may some_parts (key.mark marks.NameWord) (λ q. do
+-- name := formula [ ; ]
+abbrev pub specified_by_name : List Part → Place → Rule some_parts
+specified_by_name ps p = do
   n ← name
   r ← mark marks.Becomes
-  specified ps (Some n.0) p) (specified ps None p)
+  specified ps (Some n.0) p
+
+-- [ NAME name := ] formula [ ; ]
+abbrev pub a_property : List Part → Place → Rule some_parts
+a_property ps p = may some_parts (key.mark marks.NameWord) (λ q. specified_by_name ps p) (specified ps None p)
 
 -- a section, behind its word and behind other parts
 abbrev pub section_from : List Part → Heading → Place → Rule some_parts
@@ -174,13 +189,17 @@ some_names = do
 abbrev pub formals : Rule some_formals
 formals = may some_formals (key.mark marks.OpenRound) (λ p. may some_formals (key.mark marks.CloseRound) (λ q. gives some_formals []) some_names) (gives some_formals [])
 
--- { MODULE name [ "(" [ name { , name }* ] ")" ] { section }* }*, behind modules
-abbrev pub more_modules : List Body → Rule some_bodies
-more_modules ms = again some_bodies (key.mark marks.Module) (λ ms p. do
+-- name [ "(" [ name { , name }* ] ")" ] { section }*, behind modules
+abbrev pub one_module : List Body → Rule some_bodies
+one_module ms = do
   n ← name
   fs ← formals
   ps ← sections
-  gives some_bodies (ms ++ record { name = n.0; place = n.1; params = fs; parts = ps } ∷ [])) ms
+  gives some_bodies (ms ++ record { name = n.0; place = n.1; params = fs; parts = ps } ∷ [])
+
+-- { MODULE name [ "(" [ name { , name }* ] ")" ] { section }* }*, behind modules
+abbrev pub more_modules : List Body → Rule some_bodies
+more_modules ms = again some_bodies (key.mark marks.Module) (λ ms p. one_module ms) ms
 
 abbrev pub program : Rule some_bodies
 program = more_modules []

@@ -1,8 +1,7 @@
 -- How rules are read from tokens.
 use Rattle.std.specs.Prelude.{ℕ, zero, suc, List, [], ◌∷◌, Option, Some, None, Ok, Err, length}
 use Rattle.smv_token.specs.declared.token.Token.{Token}
-use Rattle.smv_reading.specs.Reading.{wrong, deep, ◌>>=◌}
-use Rattle.smv_text_reading.specs.RuleReading.{Got}
+use Rattle.smv_rules.specs.Reading.{wrong, deep, ◌>>=◌, Got}
 use Rattle.smv_rules.specs.Keys.{Key, Payload, sees}
 use Rattle.smv_rules.specs.Rules.{Rule, gives, too_deep, must, may, part, then, again}
 use Rattle.smv_rules.specs.Sorts.{Gift, Sort}

@@ -2,8 +2,8 @@
 use Rattle.std.specs.Prelude.{◌≡◌, ℕ, List, Result, Ok, Err}
 use Rattle.smv_grammar.specs.declared.fault.ParseFault.{ParseFault}
 use Rattle.smv_grammar.specs.Forms.{deepest}
-use Rattle.smv_text_reading.specs.TextReading.{all_read}
-use Rattle.smv_text_reading.specs.Verdicts.{judged_by}
+use Rattle.smv_rules.specs.Reading.{all_read}
+use Rattle.smv_rules.specs.Verdicts.{judged_by}
 use Rattle.smv_rules.specs.Sorts.{Gift, Sort}
 use Rattle.smv_rules.specs.Rules.{Rule}
 use Rattle.smv_rules.specs.Running.{run}

@@ -1,6 +1,9 @@
+ghost use Rattle.std.specs.Prelude.{◌≡◌, List, ℕ};
+ghost use Rattle.smv_tree.specs.Models.{Body, Claim};
+ghost use Rattle.smv_tree.specs.Trees.{Tree};
 ghost use Rattle.smv_rules.specs.Expressions.{expr};
 ghost use Rattle.smv_rules.specs.Programs.{program};
-ghost use Rattle.smv_rules.specs.Texts.{SameWhenPlain, formula};
+ghost use Rattle.smv_rules.specs.Texts.{SameWhenPlain, SpellsExpr, SpellsFormulaText, SpellsProgram, formula};
 ghost use Rattle.smv_rules.specs.WholeReading.{Right};
 
 /// The reading of texts by the rules is what the rules say: it gives exactly what a text spells, and
@@ -19,4 +22,11 @@ pub fn next_token_loses_nothing()
     ensures expression { SameWhenPlain expr }
     ensures formula { SameWhenPlain formula }
     ensures program { SameWhenPlain program }
+{}
+
+/// A text spells at most one expression, at most one formula and at most one program.
+pub fn one_spelling()
+    ensures expression { (bytes : List ℕ) (x y : Tree) → SpellsExpr bytes x → SpellsExpr bytes y → x ≡ y }
+    ensures formula { (bytes : List ℕ) (x y : Claim) → SpellsFormulaText bytes x → SpellsFormulaText bytes y → x ≡ y }
+    ensures program { (bytes : List ℕ) (ms ns : List Body) → SpellsProgram bytes ms → SpellsProgram bytes ns → ms ≡ ns }
 {}

@@ -1,3 +1,0 @@
-pub mod Resumed
-pub mod Paths
-pub mod FormulaResumed

@@ -1,5 +1,0 @@
-use Rattle.smv_text_reading.proofs.FormulaRests.{flag_is}
-use Rattle.smv_expr.proofs.formula.holds_temporal.Goals as goal
-
-pub returns : goal.returns
-returns c = flag_is c.args.flags.now c.args.rest.now c.requires

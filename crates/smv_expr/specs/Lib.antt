@@ -1,4 +1,0 @@
-pub mod Part
-pub mod Pending
-pub mod FormulaPart
-pub mod FormulaPending

@@ -1,0 +1,12 @@
+use Rattle.std.proofs.Common.{Result, subst, List}
+use Rattle.smv_tree.specs.Models.{Body, bodies}
+use Rattle.smv_grammar.specs.declared.fault.ParseFault.{ParseFault}
+use Rattle.smv_rules.specs.Verdicts.{Answers}
+use Rattle.smv_rules.proofs.Judging.{judged_so}
+use Rattle.smv_parse.specs.TextReading.{modules_of}
+use Rattle.smv_parse.proofs.program_text.read_text.Goals as goal
+
+pub returns : goal.returns
+returns c =
+    let P : Result (List Body) ParseFault → Type 0 = λ r. Answers bodies c.judge.result r in
+    subst P (judged_so modules_of c.args.bytes.now c.in_ok-text.text.tokens.items c.in_ok-text.text.stop c.in_ok-text.text.end c.in_ok-text.ensures.tokens c.in_ok-text.ensures.end) c.judge.ensures

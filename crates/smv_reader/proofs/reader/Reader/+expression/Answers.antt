@@ -1,0 +1,120 @@
+use Rattle.std.proofs.Common.{◌≡◌, ◌<◌, ◌≤◌, ◌-◌, ◌∷◌, [], ℕ, List, false, length, take, drop, refl, sym, ◌∙◌, ap, subst, arith, rules}
+use Rattle.std.proofs.lemmas.Result.{err_from_is_err_and}
+use Rattle.smv_tree.specs.Trees as tree
+use Rattle.smv_tree.specs.declared.expr.Expr.TheFolds.{the_lemmas}
+use Rattle.smv_reader.specs.Halts.{Reads}
+use Rattle.smv_rules.specs.Expressions.{applied, expr, level, more_branches, more_operands, nested, operands, primary, primary_from}
+use Rattle.smv_rules.specs.Keys.{path, primary_of, word}
+use Rattle.smv_rules.specs.Running.{run}
+use Rattle.smv_rules.proofs.Meeting.{done_read, then_read}
+use Rattle.smv_rules.specs.Sorts.{an_expression, some_branches, some_operands}
+use Rattle.smv_reader.specs.Climbing.{infix_at, next_level}
+use Rattle.smv_reader.specs.Views.{branches_of, expression_of, found, opener_of, opening_of, operands_of}
+use Rattle.smv_reader.specs.declared.opening.Opener.{Opener}
+use Rattle.smv_reader.specs.declared.opening.Opening.{Opening}
+use Rattle.smv_reader.proofs.Levels.{closed_less, closes_goes, closes_halts, joined_goes, joined_halts, joined_less, right_halts, turn_ends}
+use Rattle.smv_reader.proofs.Loops.{loop_fails}
+use Rattle.smv_reader.proofs.Turning.{front_first, infix_level, primary_at, prefixed_halts, prefixed_read, primary_halts, primary_read}
+use Rattle.smv_reader.proofs.reader.Reader.+expression.Goals as goal
+use Rattle.smv_reader.proofs.reader.Reader.+expression.Goals.{level-then-next-reached-via-then-next-reached, level-then-next-reached-via-else-next-reached+then-loosest-next}
+
+pub begun-returns-in-SelfPath : goal.begun-returns-in-SelfPath
+begun-returns-in-SelfPath t c =
+    let P : Opening → Type 0 = λ o. Reads found c.path.result (run c.args.self.room (primary_from (opening_of o) c.args.place) c.args.tokens.now) in
+    subst P (sym c.in-SelfPath.is) (rw c.as_slice.ensures at c.path.ensures)
+
+-- no operator of a level within reach is next
+pub level-returns-then-next-reached : goal.level-returns-then-next-reached
+level-returns-then-next-reached t c =
+    let out_of_reach : c.turns.reached < c.next_level-next.result → c.args.loosest < c.next_level-next.result = elim c.then-next-reached.branch [
+      | level-then-next-reached-via-then-next-reached w ↦ λ h. absurd (omega (arith, h, w.if-next-reached.true))
+      | level-then-next-reached-via-else-next-reached+then-loosest-next w ↦ λ h. w.if-loosest-next.true
+    ] in
+    turn_ends _ _ _ _ (found (c.turns.left, c.turns.rest)) _ c.next_level-next.ensures out_of_reach c.turns.invariant
+
+-- an operator that is none between operands
+pub level-returns-in_err-reached-2 : goal.level-returns-in_err-reached-2
+level-returns-in_err-reached-2 t c =
+    let p = err_from_is_err_and c.from_residual-in_err-reached-2.result c.from_residual-in_err-reached-2.ensures.1 in
+    rw (p.1, p.2) (closes_halts _ _ _ _ _ _ _ _ c.in_default.ensures.value c.next_level-next.ensures c.if-next-reached.false c.if-loosest-next.false c.in_err-reached-2.ensures c.turns.invariant)
+
+pub level-turns-smaller-in_default : goal.level-turns-smaller-in_default
+level-turns-smaller-in_default t c = closed_less _ _ _ _ _ c.in_ok-reached-2.ensures
+
+pub level-turns-preserved-in_default : goal.level-turns-preserved-in_default
+level-turns-preserved-in_default t c = closes_goes _ _ _ _ _ _ _ _ _ c.in_default.ensures.value c.next_level-next.ensures c.if-next-reached.false c.if-loosest-next.false c.in_ok-reached-2.ensures c.turns.invariant
+
+-- an operator between operands
+pub level-level-requires : goal.level-level-requires
+level-level-requires t c =
+    let own : next_level c.turns.rest.now ≡ c.in-Some.own = infix_level _ _ _ _ _ (sym c.in-Some.ensures.value) in
+    (omega (arith, own, c.next_level-next.ensures), (omega (arith, c.in-Some.ensures.least), omega (arith, own, c.next_level-next.ensures)))
+
+pub level-returns-in_err-right : goal.level-returns-in_err-right
+level-returns-in_err-right t c =
+    let p = err_from_is_err_and c.from_residual-in_err-right.result c.from_residual-in_err-right.ensures.1 in
+    rw (p.1, p.2) (right_halts _ _ _ _ _ _ _ _ _ _ _ _ c.in-Some.ensures.value c.next_level-next.ensures c.if-next-reached.false c.if-loosest-next.false c.in_err-right.ensures c.turns.invariant)
+
+pub level-returns-in_err-left : goal.level-returns-in_err-left
+level-returns-in_err-left t c =
+    let p = err_from_is_err_and c.from_residual-in_err-left.result c.from_residual-in_err-left.ensures.1 in
+    rw (p.1, p.2) (joined_halts _ _ _ _ _ _ _ _ _ _ _ _ _ _ c.in-Some.ensures.value c.next_level-next.ensures c.if-next-reached.false c.if-loosest-next.false c.in_ok-right.ensures c.in_err-left.ensures c.turns.invariant)
+
+pub level-turns-smaller : goal.level-turns-smaller
+level-turns-smaller t c = joined_less _ _ (expression_of c.turns.left) _ _ _ _ _ _ _ _ c.in-Some.ensures.value c.in_ok-right.ensures c.in_ok-left.ensures
+
+pub level-turns-preserved : goal.level-turns-preserved
+level-turns-preserved t c = joined_goes _ _ _ _ _ _ _ _ _ _ _ _ _ _ _ c.in-Some.ensures.value c.next_level-next.ensures c.if-next-reached.false c.if-loosest-next.false c.in_ok-right.ensures c.in_ok-left.ensures c.turns.invariant
+
+pub more_branches-returns-in_err-behind : goal.more_branches-returns-in_err-behind
+more_branches-returns-in_err-behind t c =
+    let p = err_from_is_err_and c.from_residual.result c.from_residual.ensures.1 in
+    rw (p.1, p.2) (loop_fails _ _ some_branches (more_branches _) _ _ c.in_err-behind.ensures c.branches.invariant)
+
+pub more_operands-returns-in_err-behind : goal.more_operands-returns-in_err-behind
+more_operands-returns-in_err-behind t c =
+    let p = err_from_is_err_and c.from_residual.result c.from_residual.ensures.1 in
+    rw (p.1, p.2) (loop_fails _ _ some_operands (more_operands _) _ _ c.in_err-behind.ensures c.operands.invariant)
+
+pub nested-returns-in-Next : goal.nested-returns-in-Next
+nested-returns-in-Next t c =
+    let P : Opener → Type 0 = λ o. Reads found c.next_value.result (run c.args.self.room (nested (opener_of o) c.args.place) c.args.tokens.now) in
+    subst P (sym c.in-Next.is) c.next_value.ensures
+
+pub nested-returns-in-Function : goal.nested-returns-in-Function
+nested-returns-in-Function t c =
+    let P : Opener → Type 0 = λ o. Reads found c.function.result (run c.args.self.room (nested (opener_of o) c.args.place) c.args.tokens.now) in
+    subst P (sym c.in-Function.is) c.function.ensures
+
+-- the first operand
+pub operand-returns-in_err-part : goal.operand-returns-in_err-part
+operand-returns-in_err-part t c =
+    let p = err_from_is_err_and c.from_residual.result c.from_residual.ensures.1 in
+    rw (p.1, p.2) (primary_halts _ _ _ _ (sym c.in_default.ensures.value) c.in_err-part.ensures)
+
+pub operand-returns-in_default : goal.operand-returns-in_default
+operand-returns-in_default t c = primary_read _ _ _ _ _ (sym c.in_default.ensures.value) c.in_ok-part.ensures
+
+pub operand-returns-in_err-part-2 : goal.operand-returns-in_err-part-2
+operand-returns-in_err-part-2 t c =
+    let p = err_from_is_err_and c.from_residual-in_err-part-2.result c.from_residual-in_err-part-2.ensures.1 in
+    rw (p.1, p.2) (prefixed_halts _ _ _ _ _ _ _ _ c.requires.least (sym c.in-Some.ensures.value) c.in_err-part-2.ensures)
+
+pub operand-returns : goal.operand-returns
+operand-returns t c = prefixed_read _ _ _ _ _ _ _ _ _ c.requires.least (sym c.in-Some.ensures.value) c.in_ok-part-2.ensures
+
+pub operands-returns : goal.operands-returns
+operands-returns t c =
+    let e = then_read _ _ _ expr (λ a. more_operands (record { trees = a.tree ∷ []; depth = a.depth })) _ _ _ c.in_ok-part.ensures in
+    rw e (rw c.in_ok-first.ensures at c.more_operands.ensures)
+
+pub primary-returns-in-Name : goal.primary-returns-in-Name
+primary-returns-in-Name t c =
+    let front = front_first c.args.tokens.now c.first-item.result (omega arith) c.first-item.is in
+    rw (primary_at _ _ _ _ (path c.in-Name.name) front (ap primary_of c.in-Name.is)) (rw c.as_slice.ensures.bytes at c.path.ensures)
+
+pub primary-returns-in-Word : goal.primary-returns-in-Word
+primary-returns-in-Word t c =
+    let front = front_first c.args.tokens.now c.first-item.result (omega arith) c.first-item.is in
+    let read : expression_of c.single.result ≡ record { tree = tree.word c.first-item.result.place c.in-Word.word; depth = 1; bare = false } = search (rules, the_lemmas, c.single.ensures) in
+    primary_at _ _ _ _ (word c.in-Word.word) front (ap primary_of c.in-Word.is) ∙ rw (← read) (done_read c.args.self.room an_expression (expression_of c.single.result) (take (length c.args.tokens.now - 1) (drop 1 c.args.tokens.now)))

@@ -1,0 +1,7 @@
+pub mod Halts
+pub mod Flags
+pub mod Turns
+pub mod Views
+pub mod Climbing
+pub mod Headings
+pub mod FormulaViews

@@ -1,4 +1,0 @@
-pub mod Verdicts
-pub mod FormulaReading
-pub mod RuleReading
-pub mod TextReading
