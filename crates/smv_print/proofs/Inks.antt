@@ -16,13 +16,13 @@ use Rattle.smv_tree.specs.declared.expr.Branch.{Branch}
 use Rattle.smv_tree.specs.declared.expr.Expr.{Expr}
 use Rattle.smv_tree.specs.declared.expr.Expr.TheFolds.{fold_out-Branch}
 use Rattle.smv_tree.specs.Trees.{Tree, arms, branch_step, expr_step, expr_tree, no_trees, trees}
-use Rattle.smv_print.specs.declared.lead.Lead.TheVariants as lead
+use Rattle.smv_printing.specs.declared.lead.Lead.TheVariants as lead
 use Rattle.smv_token.specs.declared.mark.Mark.{Mark}
 use Rattle.smv_token.specs.declared.mark.Mark.TheVariants as marks
 use Rattle.smv_token.specs.declared.token.Lexeme.TheVariants as lexeme
 use Rattle.smv_token.specs.Marks.{text}
 use Rattle.smv_grammar.specs.Branches.{arm_of}
-use Rattle.smv_print.specs.Printing.{Ink, after_comma, around, bare, blank, branches, dotted, ink_text, integer, listed, path_head, symbol, text_of, token}
+use Rattle.smv_printing.specs.Printing.{Ink, after_comma, around, bare, blank, branches, dotted, ink_text, integer, listed, path_head, symbol, text_of, token}
 use Rattle.smv_print.specs.Written.{Prints, listed_from, separator}
 
 -- a number as std writes it

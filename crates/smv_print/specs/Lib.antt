@@ -1,5 +1,1 @@
-pub mod Printing
-pub mod Alike
 pub mod Written
-pub mod Scannables
-pub mod Beside

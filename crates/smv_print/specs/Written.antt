@@ -1,15 +1,34 @@
--- What a printer has written, as its steps see it.
-use Rattle.std.specs.Prelude.{Bool, true, false, List, [], ◌∷◌, Result}
+-- What a printer has written.
+use Rattle.std.specs.Io.KnownBytes.{append_known}
+use Rattle.std.specs.Prelude.{◌≡◌, ℕ, Bool, true, false, List, [], ◌∷◌, Result}
 use Rattle.outside.specs.declared.Failed.{Failed}
 use Rattle.outside.specs.Told.{Output, Writes}
 use Rattle.smv_tree.specs.Models.{Claim, both}
 use Rattle.smv_tree.specs.Trees.{Tree, Trees, choice, two}
-use Rattle.smv_print.specs.declared.lead.Lead.{Lead}
-use Rattle.smv_print.specs.declared.lead.Lead.TheVariants as lead
+use Rattle.smv_printing.specs.declared.lead.Lead.{Lead}
+use Rattle.smv_printing.specs.declared.lead.Lead.TheVariants as lead
 use Rattle.smv_token.specs.declared.mark.Mark.TheVariants as marks
 use Rattle.smv_grammar.specs.Forms.{left_level}
 use Rattle.smv_grammar.specs.Formulas.{left_of, right_of}
-use Rattle.smv_print.specs.Printing.{Ink, after_comma, bare, blank, claim_inks, claim_part, level, level_of_claim, listed, right_level, spelled, symbol, text_of}
+use Rattle.smv_rules.specs.Texts.{SpellsExpr, SpellsFormulaText}
+use Rattle.smv_printing.specs.Alike.{Alike, AlikeClaims}
+use Rattle.smv_printing.specs.Printing.{Ink, after_comma, bare, blank, claim_inks, claim_part, level, level_of_claim, listed, right_level, spelled, symbol, text_of}
+
+-- what was written is a text that spells the expression, places aside
+pub record WroteAlike (old new : Output) (x : Tree) : Type 0 where
+  pub text : List ℕ
+  pub written : new.written ≡ append_known old.written text
+  pub tree : Tree
+  pub spelled : SpellsExpr text tree
+  pub alike : Alike x tree
+
+-- what was written is a text that spells the formula, places aside
+pub record WroteAlikeFormula (old new : Output) (c : Claim) : Type 0 where
+  pub text : List ℕ
+  pub written : new.written ≡ append_known old.written text
+  pub claim : Claim
+  pub spelled : SpellsFormulaText text claim
+  pub alike : AlikeClaims c claim
 
 -- The bytes of what is printed were written. It is a record, so that a proof finds what is printed.
 pub record Prints {X : Type 0} (inks : List Ink) (old : Output) (result : Result X Failed) (new : Output) : Type 0 where

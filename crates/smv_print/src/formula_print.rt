@@ -4,15 +4,13 @@ ghost use Rattle.std.specs.Prelude.{◌≡◌, ◌∷◌, ◌++◌, [], OnOk, Li
 ghost use Rattle.outside.specs.Told.{Writes};
 ghost use Rattle.smv_tree.specs.Models.{formula_claim};
 ghost use Rattle.smv_token.specs.declared.mark.Mark.TheVariants as marks;
-ghost use Rattle.smv_print.specs.Alike.{WroteAlikeFormula};
 ghost use Rattle.smv_grammar.specs.Formulas.{left_of, right_of};
-ghost use Rattle.smv_print.specs.Printing.{around, blank, claim_inks, claim_level, claim_part, claim_printed, level_of_claim, mark_of_claim, symbol};
-ghost use Rattle.smv_rules.specs.Sorts as sorts;
-ghost use Rattle.smv_rules.specs.Texts.{SpellsBy, formula};
-ghost use Rattle.smv_print.specs.Written.{Prints, claim_left_inks, claim_right_inks};
+ghost use Rattle.smv_printing.specs.Printing.{around, blank, claim_inks, claim_level, claim_part, claim_printed, level_of_claim, mark_of_claim, symbol};
+ghost use Rattle.smv_rules.specs.Texts.{SpellsFormulaText};
+ghost use Rattle.smv_print.specs.Written.{Prints, WroteAlikeFormula, claim_left_inks, claim_right_inks};
 
 use crate::ink::{put_blank, put_mark, put_operator};
-use crate::lead::Lead;
+use smv_printing::Lead;
 use crate::print::put_part;
 use outside::{Failed, Sink};
 use smv_grammar::{ATOMIC, joining_by, rightward};
@@ -161,7 +159,7 @@ fn put_two<S: Sink>(out: &mut S, mark: Mark, f: &Formula) -> Result<(), Failed>
 
 /// Writes a formula without parentheses around it.
 #[cycle(formula)]
-#[tactic(auto, unfolding(crate::specs::Printing::claim_inks))]
+#[tactic(auto, unfolding(smv_printing::specs::Printing::claim_inks))]
 fn put_formula<S: Sink>(out: &mut S, f: &Formula) -> Result<(), Failed>
     ensures { Prints (claim_inks (formula_claim f.now)) (S.told out.old) result (S.told out.new) }
 {
@@ -186,7 +184,7 @@ fn put_formula<S: Sink>(out: &mut S, f: &Formula) -> Result<(), Failed>
 pub fn print_formula<S: Sink>(f: &Formula, out: &mut S) -> Result<(), Failed>
     ensures written { Writes (claim_printed (formula_claim f.now)) (S.told out.old) result (S.told out.new) }
     // what is written of a formula that a text spells is a text that spells it again, places aside
-    ensures again { (bytes : List ℕ) (x : sorts.Formula) → SpellsBy formula bytes x → x.claim ≡ formula_claim f.now → OnOk result (WroteAlikeFormula (S.told out.old) (S.told out.new) (formula_claim f.now)) }
+    ensures again { (bytes : List ℕ) → SpellsFormulaText bytes (formula_claim f.now) → OnOk result (WroteAlikeFormula (S.told out.old) (S.told out.new) (formula_claim f.now)) }
 {
     put_formula(out, f)
 }

@@ -2,7 +2,7 @@
 
 ghost use Rattle.std.specs.Prelude.{◌≡◌, ◌∷◌, []};
 ghost use Rattle.smv_token.specs.declared.token.Lexeme.TheVariants as lexeme;
-ghost use Rattle.smv_print.specs.Printing.{blank, dotted, integer, numeral, path, path_head, symbol, token, width, word_head};
+ghost use Rattle.smv_printing.specs.Printing.{blank, dotted, integer, numeral, path, path_head, symbol, token, width, word_head};
 ghost use Rattle.smv_print.specs.Written.{Prints};
 
 use itoa::Buffer;

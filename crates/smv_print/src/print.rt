@@ -3,20 +3,17 @@
 ghost use Rattle.std.specs.Prelude.{◌≡◌, ◌∷◌, ◌++◌, [], OnOk, List, map, ℕ};
 ghost use Rattle.outside.specs.Told.{Writes};
 ghost use Rattle.smv_tree.specs.Trees.{arms, expr_tree, one, trees};
-ghost use Rattle.smv_print.specs.declared.lead.Lead.TheVariants as lead_is;
+ghost use Rattle.smv_printing.specs.declared.lead.Lead.TheVariants as lead_is;
 ghost use Rattle.smv_token.specs.declared.mark.Mark.TheVariants as marks;
-ghost use Rattle.smv_print.specs.Alike.{WroteAlike};
 ghost use Rattle.smv_grammar.specs.Branches.{arm_of};
-ghost use Rattle.smv_print.specs.Printing.{around, bare, branches, call, blank, gap, integer, listed, numeral, printed, spelled, symbol, width};
-ghost use Rattle.smv_rules.specs.Expressions.{expr};
-ghost use Rattle.smv_rules.specs.Sorts.{Expression};
-ghost use Rattle.smv_rules.specs.Texts.{SpellsBy};
-ghost use Rattle.smv_print.specs.Written.{Prints, left_inks, right_inks, separator, then_inks};
+ghost use Rattle.smv_printing.specs.Printing.{around, bare, branches, call, blank, gap, integer, listed, numeral, printed, spelled, symbol, width};
+ghost use Rattle.smv_rules.specs.Texts.{SpellsExpr};
+ghost use Rattle.smv_print.specs.Written.{Prints, WroteAlike, left_inks, right_inks, separator, then_inks};
 
 use crate::ink::{
     put_blank, put_integer, put_mark, put_number, put_operator, put_path, put_width, put_word,
 };
-use crate::lead::Lead;
+use smv_printing::Lead;
 use crate::operators::{is_negation, left_level, level, mark_of_two, misread, right_level};
 use outside::{Failed, Sink};
 use smv_token::Mark;
@@ -143,7 +140,7 @@ fn put_negated<S: Sink>(out: &mut S, operand: &Expr) -> Result<(), Failed>
 
 /// Writes an operator or a function of one operand.
 #[cycle(print)]
-#[tactic(auto, unfolding(crate::specs::Printing::bare))]
+#[tactic(auto, unfolding(smv_printing::specs::Printing::bare))]
 fn put_one<S: Sink>(out: &mut S, place: Place, op: Op1, operand: &Expr) -> Result<(), Failed>
     ensures { Prints (bare (one place op (expr_tree operand.now)) lead_is.Free) (S.told out.old) result (S.told out.new) }
 {
@@ -312,7 +309,7 @@ fn put_case<S: Sink>(out: &mut S, items: &[Branch]) -> Result<(), Failed>
 
 /// Writes an expression without parentheses around it.
 #[cycle(print)]
-#[tactic(auto, unfolding(crate::specs::Printing::bare))]
+#[tactic(auto, unfolding(smv_printing::specs::Printing::bare))]
 fn put_bare<S: Sink>(out: &mut S, lead: Lead, e: &Expr) -> Result<(), Failed>
     ensures { Prints (bare (expr_tree e.now) lead) (S.told out.old) result (S.told out.new) }
 {
@@ -349,7 +346,7 @@ fn put_bare<S: Sink>(out: &mut S, lead: Lead, e: &Expr) -> Result<(), Failed>
 pub fn print_expr<S: Sink>(e: &Expr, out: &mut S) -> Result<(), Failed>
     ensures written { Writes (printed (expr_tree e.now)) (S.told out.old) result (S.told out.new) }
     // what is written of an expression that a text spells is a text that spells it again, places aside
-    ensures again { (bytes : List ℕ) (x : Expression) → SpellsBy expr bytes x → x.tree ≡ expr_tree e.now → OnOk result (WroteAlike (S.told out.old) (S.told out.new) (expr_tree e.now)) }
+    ensures again { (bytes : List ℕ) → SpellsExpr bytes (expr_tree e.now) → OnOk result (WroteAlike (S.told out.old) (S.told out.new) (expr_tree e.now)) }
 {
     put_bare(out, Lead::Free, e)
 }

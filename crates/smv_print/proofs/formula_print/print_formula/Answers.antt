@@ -1,4 +1,4 @@
-use Rattle.smv_print.proofs.Reparsed.{formula_again}
+use Rattle.smv_print.proofs.SpelledAgain.{formula_again}
 use Rattle.smv_print.proofs.formula_print.print_formula.Goals as goal
 
 pub returns-clause-again : goal.returns-clause-again

@@ -2,7 +2,7 @@ use Rattle.std.proofs.Common.{drop}
 use Rattle.std.specs.Prelude.{Result}
 use Rattle.outside.specs.declared.Failed.{Failed}
 use Rattle.outside.specs.Told.{Output}
-use Rattle.smv_print.specs.Printing.{dotted}
+use Rattle.smv_printing.specs.Printing.{dotted}
 use Rattle.smv_print.specs.Written.{Prints}
 use Rattle.smv_print.proofs.ink.put_dotted.Given as goal
 

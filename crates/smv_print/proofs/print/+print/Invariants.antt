@@ -3,7 +3,7 @@ use Rattle.std.specs.Prelude.{Result}
 use Rattle.outside.specs.declared.Failed.{Failed}
 use Rattle.outside.specs.Told.{Output}
 use Rattle.smv_tree.specs.Trees.{arms, expr_tree, trees}
-use Rattle.smv_print.specs.Printing.{branches, listed}
+use Rattle.smv_printing.specs.Printing.{branches, listed}
 use Rattle.smv_print.specs.Written.{Prints, listed_from}
 use Rattle.smv_grammar.specs.Branches.{arm_of}
 use Rattle.smv_print.proofs.print.+print.Given as goal

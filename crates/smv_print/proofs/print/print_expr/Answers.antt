@@ -1,4 +1,4 @@
-use Rattle.smv_print.proofs.Reparsed.{expression_again}
+use Rattle.smv_print.proofs.SpelledAgain.{expression_again}
 use Rattle.smv_print.proofs.print.print_expr.Goals as goal
 
 pub returns-clause-again : goal.returns-clause-again

@@ -1,0 +1,163 @@
+-- Expressions that are printed no deeper than they are.
+use Rattle.std.proofs.Common.{◌≡◌, ◌≤◌, ◌<◌, ◌||◌, ℕ, suc, max, Bool, true, false, cond, nat_lt, List, [], ◌∷◌, ◌++◌, refl, sym, ◌∙◌, subst, ap, arith}
+use Rattle.std.proofs.lemmas.Bool.{le-ltb, ltb-false, ltb-true}
+use Rattle.smv_tree.specs.declared.expr.Op1.TheVariants as op1
+use Rattle.smv_tree.specs.Trees.{Tree, choice, one, two, select, span, trees, arms}
+use Rattle.smv_grammar.specs.Forms.{deepest, left_level}
+use Rattle.smv_rules.specs.Sorts.{Branches, Expression, Operands}
+use Rattle.smv_printing.specs.declared.lead.Lead.{Lead}
+use Rattle.smv_printing.specs.declared.lead.Lead.TheVariants as lead
+use Rattle.smv_printing.specs.Printing.{level, misread}
+use Rattle.smv_printing.specs.Scannables.{ArmsScannable, EachScannable, Scannables, SomeArms, SomeTrees}
+use Rattle.smv_printing.proofs.PrintedDepth.{IsSpan, depth, depth_all, depth_arms, depth_in, held, held_less}
+
+-- what begins an atom begins with no `!`
+abbrev pub Clean : Lead → Bool → Type 0
+Clean lead.Atom clean = (clean ≡ true)
+Clean k clean = Unit {0}
+
+-- An expression of a level is printed no deeper, also as what begins an atom where the flag says that it
+-- begins with no `!`.
+pub record Fits (clean : Bool) (l : ℕ) (x : Expression) : Type 0 where
+  pub well : Scannables x.tree
+  pub shallow : (k : Lead) → Clean k clean → depth_in k l x.tree ≤ x.depth
+  pub bare : x.bare ≡ true → IsSpan x.tree
+  pub within : x.depth ≤ deepest
+
+-- parentheses are one nesting more
+in_more : (x : Tree) (k : Lead) (l : ℕ) → depth x k ≤ suc (depth x lead.Free) → depth_in k l x ≤ suc (depth_in lead.Free l x)
+in_more x k l h = by_test (nat_lt l (level x)) (misread k x) where
+  by_test : (a b : Bool) → cond (a || b) (suc (held x (depth x lead.Free))) (depth x k) ≤ suc (cond (a || false) (suc (held x (depth x lead.Free))) (depth x lead.Free))
+  by_test true b = omega arith
+  by_test false true = let g = held_less x lead.Free in omega (arith, g)
+  by_test false false = h
+
+lead_more : (x : Tree) (k : Lead) → depth x k ≤ suc (depth x lead.Free)
+unfolding depth
+lead_more (choice p c a b) k = let h = in_more c k (left_level 13) (lead_more c k) in omega (arith, h)
+lead_more (two p o a b) k = let h = in_more a k (left_level (level (two p o a b))) (lead_more a k) in omega (arith, h)
+lead_more (select p a high low) k = let h = in_more a k 1 (lead_more a k) in omega (arith, h)
+lead_more (one p op1.Not a) k = omega arith
+lead_more (one p op1.Neg a) k = omega arith
+lead_more (one p o a) k = omega arith
+lead_more x k = omega arith
+
+-- without brackets it is no deeper than in them, and in a looser place no deeper than in a tighter one
+held_more : (x : Tree) (k : Lead) → depth x k ≤ suc (depth x lead.Free) → depth x k ≤ suc (held x (depth x lead.Free))
+unfolding depth
+held_more (span p low high) k h = omega arith
+held_more x k h = omega (arith, h)
+
+in_brackets : (x : Tree) (k : Lead) (l : ℕ) → depth_in k l x ≤ suc (held x (depth x lead.Free))
+in_brackets x k l = by_test (nat_lt l (level x) || misread k x) where
+  by_test : (b : Bool) → cond b (suc (held x (depth x lead.Free))) (depth x k) ≤ suc (held x (depth x lead.Free))
+  by_test true = omega arith
+  by_test false = held_more x k (lead_more x k)
+
+freely : (x : Tree) (k : Lead) (l : ℕ) → depth x k ≤ depth_in k l x
+freely x k l = by_test (nat_lt l (level x) || misread k x) where
+  by_test : (b : Bool) → depth x k ≤ cond b (suc (held x (depth x lead.Free))) (depth x k)
+  by_test true = held_more x k (lead_more x k)
+  by_test false = omega arith
+
+looser : (x : Tree) (k : Lead) (l m : ℕ) → l ≤ m → depth_in k m x ≤ depth_in k l x
+looser x k l m le = by_test (nat_lt m (level x)) refl (nat_lt l (level x)) refl (misread k x) where
+  by_test : (a : Bool) → nat_lt m (level x) ≡ a → (b : Bool) → nat_lt l (level x) ≡ b → (r : Bool) → cond (a || r) (suc (held x (depth x lead.Free))) (depth x k) ≤ cond (b || r) (suc (held x (depth x lead.Free))) (depth x k)
+  by_test true e true f r = omega arith
+  by_test true e false f r = let h = ltb-true m (level x) e in let g = ltb-false l (level x) f in absurd (omega (arith, h, g, le))
+  by_test false e true f true = omega arith
+  by_test false e true f false = held_more x k (lead_more x k)
+  by_test false e false f r = omega arith
+
+pub fits_looser : (clean : Bool) (l m : ℕ) (x : Expression) → l ≤ m → Fits clean l x → Fits clean m x
+fits_looser clean l m x le h = record { well = h.well; shallow = λ k c. let f = h.shallow k c in let g = looser x.tree k l m le in omega (arith, f, g); bare = h.bare; within = h.within }
+
+pub fits_any : (clean : Bool) (l : ℕ) (x : Expression) → Fits true l x → Fits clean l x
+fits_any clean l x h = record { well = h.well; shallow = λ k c. h.shallow k (by k); bare = h.bare; within = h.within } where
+  by : (k : Lead) → Clean k true
+  by lead.Free = tt
+  by lead.Minus = tt
+  by lead.Atom = refl
+
+pub free_part : (clean : Bool) (l : ℕ) (x : Expression) → Fits clean l x → depth x.tree lead.Free ≤ x.depth
+free_part clean l x h = let f = h.shallow lead.Free tt in let g = freely x.tree lead.Free l in omega (arith, f, g)
+
+span_depth : (x : Tree) (k : Lead) → IsSpan x → depth_in k 1 x ≤ depth x lead.Free
+unfolding depth
+span_depth (span p low high) lead.Free s = omega arith
+span_depth (span p low high) lead.Minus s = omega arith
+span_depth (span p low high) lead.Atom s = omega arith
+span_depth x k s = absurd s
+
+-- brackets add nothing to a range that stands alone
+pub round_bare : (l : ℕ) (x : Expression) → x.bare ≡ true → Fits false l x → Fits true 1 (record { tree = x.tree; depth = x.depth; bare = false })
+round_bare l x e h = record { well = h.well; shallow = λ k c. let d = free_part false l x h in let f = span_depth x.tree k (h.bare e) in omega (arith, d, f); bare = λ f. absurd (cc); within = h.within }
+
+pub round_fits : (l : ℕ) (x : Expression) → Fits false l x → x.depth < deepest → Fits true 1 (record { tree = x.tree; depth = suc x.depth; bare = false })
+round_fits l x h w = record { well = h.well; shallow = λ k c. let d = free_part false l x h in let f = in_brackets x.tree k 1 in let g = held_less x.tree lead.Free in omega (arith, d, f, g); bare = λ f. absurd (cc); within = w }
+
+-- what is never misread
+abbrev pub is_plain : Tree → Bool
+is_plain (span p low high) = false
+is_plain (one p op1.Not a) = false
+is_plain x = true
+
+plain_read : (k : Lead) (x : Tree) → is_plain x ≡ true → misread k x ≡ false
+plain_read lead.Free x e = refl
+plain_read lead.Minus (span p low high) e = absurd (cc)
+plain_read lead.Minus x e = refl
+plain_read lead.Atom (one p op1.Not a) e = absurd (cc)
+plain_read lead.Atom x e = refl
+
+pub in_level : (x : Tree) (k : Lead) (l d : ℕ) → level x ≤ l → misread k x ≡ false → depth x k ≤ d → depth_in k l x ≤ d
+in_level x k l d h m g = subst (λ b. cond b (suc (held x (depth x lead.Free))) (depth x k) ≤ d) (sym (neither (nat_lt l (level x)) (misread k x) (le-ltb l (level x) h) m)) g where
+  neither : (a b : Bool) → a ≡ false → b ≡ false → (a || b) ≡ false
+  neither a b e f = ap (λ c. c || b) e ∙ f
+
+pub fits_plain : (clean : Bool) (l : ℕ) (x : Tree) (d : ℕ) → Scannables x → level x ≤ l → is_plain x ≡ true → ((k : Lead) → Clean k clean → depth x k ≤ d) → d ≤ deepest → Fits clean l (record { tree = x; depth = d; bare = false })
+fits_plain clean l x d s h e g w = record { well = s; shallow = λ k c. in_level x k l d h (plain_read k x e) (g k c); bare = λ f. absurd (cc); within = w }
+
+-- operands, and branches of a case
+pub record AllFit (xs : Operands) : Type 0 where
+  pub some : SomeTrees (trees xs.trees)
+  pub well : EachScannable (trees xs.trees)
+  pub shallow : depth_all (trees xs.trees) ≤ xs.depth
+
+pub record ArmsFit (bs : Branches) : Type 0 where
+  pub some : SomeArms (arms bs.arms)
+  pub well : ArmsScannable (arms bs.arms)
+  pub shallow : depth_arms (arms bs.arms) ≤ bs.depth
+
+all_added : (xs : List Tree) (a : Tree) → EachScannable (trees xs) → Scannables a → EachScannable (trees (xs ++ a ∷ []))
+unfolding Scannables
+all_added [] a s t = (t, tt)
+all_added (x ∷ xs) a s t = (s.0, all_added xs a s.1 t)
+
+some_added : (xs : List Tree) (a : Tree) → SomeTrees (trees (xs ++ a ∷ []))
+some_added [] a = tt
+some_added (x ∷ xs) a = tt
+
+depth_added : (xs : List Tree) (a : Tree) → depth_all (trees (xs ++ a ∷ [])) ≤ max (depth_all (trees xs)) (depth a lead.Free)
+unfolding depth
+depth_added [] a = omega arith
+depth_added (x ∷ xs) a = let h = depth_added xs a in omega (arith, h)
+
+pub fit_added : (xs : Operands) (a : Expression) → EachScannable (trees xs.trees) → depth_all (trees xs.trees) ≤ xs.depth → Fits false 15 a → AllFit (record { trees = xs.trees ++ a.tree ∷ []; depth = max xs.depth a.depth })
+fit_added xs a w s f = let g = free_part false 15 a f in let e = depth_added xs.trees a.tree in record { some = some_added xs.trees a.tree; well = all_added xs.trees a.tree w f.well; shallow = omega (arith, g, e, s) }
+
+arms_added : (bs : List (Tree × Tree)) (c v : Tree) → ArmsScannable (arms bs) → Scannables c → Scannables v → ArmsScannable (arms (bs ++ (c, v) ∷ []))
+unfolding Scannables
+arms_added [] c v s t u = (t, u, tt)
+arms_added (b ∷ bs) c v s t u = (s.0, s.1, arms_added bs c v s.2 t u)
+
+arm_added : (bs : List (Tree × Tree)) (c v : Tree) → SomeArms (arms (bs ++ (c, v) ∷ []))
+arm_added [] c v = tt
+arm_added (b ∷ bs) c v = tt
+
+deep_added : (bs : List (Tree × Tree)) (c v : Tree) → depth_arms (arms (bs ++ (c, v) ∷ [])) ≤ max (depth_arms (arms bs)) (max (depth c lead.Free) (depth v lead.Free))
+unfolding depth
+deep_added [] c v = omega arith
+deep_added (b ∷ bs) c v = let h = deep_added bs c v in omega (arith, h)
+
+pub branch_added : (bs : Branches) (c v : Expression) → ArmsScannable (arms bs.arms) → depth_arms (arms bs.arms) ≤ bs.depth → Fits false 15 c → Fits false 15 v → ArmsFit (record { arms = bs.arms ++ (c.tree, v.tree) ∷ []; depth = max bs.depth (max c.depth v.depth) })
+branch_added bs c v w s f g = let i = free_part false 15 c f in let j = free_part false 15 v g in let e = deep_added bs.arms c.tree v.tree in record { some = arm_added bs.arms c.tree v.tree; well = arms_added bs.arms c.tree v.tree w f.well g.well; shallow = omega (arith, i, j, e, s) }

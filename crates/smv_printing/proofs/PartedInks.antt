@@ -1,0 +1,225 @@
+-- What is printed of expressions is parted well.
+use Rattle.std.proofs.Common.{◌≡◌, if◌then◌else◌, ◌≤◌, ℕ, suc, ℤ, pos, negsuc, Bool, true, false, cond, nat_lt, ◌||◌, List, [], ◌∷◌, ◌++◌, Option, Some, None, refl, sym, subst, codes, decimal, arith}
+use Rattle.std.specs.Str.{bytes_eq}
+use Rattle.smv_tree.specs.declared.expr.Op1.TheVariants as op1
+use Rattle.smv_tree.specs.Trees.{Tree, Trees, Arms, truth, number, word, name, span, set, cases, choice, one, two, select, next, widen, const, count, no_trees, tree, no_arms, arm}
+use Rattle.smv_printing.specs.declared.lead.Lead.{Lead}
+use Rattle.smv_printing.specs.declared.lead.Lead.TheVariants as lead
+use Rattle.smv_token.specs.declared.mark.Mark.{Mark}
+use Rattle.smv_token.specs.declared.mark.Mark.TheVariants as marks
+use Rattle.smv_token.specs.declared.token.Lexeme.TheVariants as lexeme
+use Rattle.smv_printing.specs.Beside.{Stands, Stops, WellParted, first_byte, first_of, runs_on}
+use Rattle.smv_grammar.specs.Forms.{left_level}
+use Rattle.smv_token.specs.Marks.{text}
+use Rattle.smv_printing.specs.Printing.{Ink, after_comma, around, bare, blank, branches, call, constant, dotted, gap, integer, is_negation, level, listed, mark_of_one, mark_of_two, misread, part, path, path_head, right_level, symbol, token, widening, width}
+use Rattle.smv_printing.specs.Scannables.{ArmsScannable, EachScannable, OwnNames, OwnPath, Scannable, Scannables, Signed, first_is, greatest, widest}
+use Rattle.smv_token.specs.Tokens.{begins_name, continues_name}
+use Rattle.smv_printing.proofs.InkFronts.{Begins, NoMinus, begins, begins_part, first_append, no_minus, number_begins, part_begins, part_no_minus}
+use Rattle.smv_printing.proofs.ReadMarks.{apart}
+
+-- what may follow an expression: no byte that goes on with a name or a number
+abbrev pub Follows : Option ℕ → Type 0
+Follows end = Stops continues_name end
+
+any_stop : (p : ℕ → Bool) (end : Option ℕ) → ((b : ℕ) → p b ≡ false) → Stops p end
+any_stop p None h = tt
+any_stop p (Some b) h = h b
+
+pub parted_append : (a b : List Ink) (end : Option ℕ) → WellParted a (first_byte b end) → WellParted b end → WellParted (a ++ b) end
+parted_append [] b end h k = k
+parted_append (blank ∷ a) b end h k = parted_append a b end h k
+parted_append (token t ∷ a) b end h k = (subst (Stands t) (sym (first_append a b end)) h.0, parted_append a b end h.1 k)
+
+mark_stands : (m : Mark) (end : Option ℕ) → Stops (runs_on (lexeme.Mark m)) end → Stands (lexeme.Mark m) end
+mark_stands m end h = record { scannable = tt; stops = h }
+
+-- any mark stands before a blank
+pub before_blank : (m : Mark) → Stands (lexeme.Mark m) (Some 32)
+unfolding text
+before_blank marks.Iff = record { scannable = tt; stops = refl }
+before_blank m = record { scannable = tt; stops = refl }
+
+number_stands : (n : ℕ) (end : Option ℕ) → n ≤ greatest → Follows end → Stands (lexeme.Number n) end
+number_stands n end h f = record { scannable = h; stops = f }
+
+-- what stands before any byte
+open_round : (end : Option ℕ) → Stands (lexeme.Mark marks.OpenRound) end
+unfolding text
+open_round end = mark_stands marks.OpenRound end (any_stop (runs_on (lexeme.Mark marks.OpenRound)) end (λ b. refl))
+
+close_round : (end : Option ℕ) → Stands (lexeme.Mark marks.CloseRound) end
+unfolding text
+close_round end = mark_stands marks.CloseRound end (any_stop (runs_on (lexeme.Mark marks.CloseRound)) end (λ b. refl))
+
+open_curly : (end : Option ℕ) → Stands (lexeme.Mark marks.OpenCurly) end
+unfolding text
+open_curly end = mark_stands marks.OpenCurly end (any_stop (runs_on (lexeme.Mark marks.OpenCurly)) end (λ b. refl))
+
+close_curly : (end : Option ℕ) → Stands (lexeme.Mark marks.CloseCurly) end
+unfolding text
+close_curly end = mark_stands marks.CloseCurly end (any_stop (runs_on (lexeme.Mark marks.CloseCurly)) end (λ b. refl))
+
+open_square : (end : Option ℕ) → Stands (lexeme.Mark marks.OpenSquare) end
+unfolding text
+open_square end = mark_stands marks.OpenSquare end (any_stop (runs_on (lexeme.Mark marks.OpenSquare)) end (λ b. refl))
+
+close_square : (end : Option ℕ) → Stands (lexeme.Mark marks.CloseSquare) end
+unfolding text
+close_square end = mark_stands marks.CloseSquare end (any_stop (runs_on (lexeme.Mark marks.CloseSquare)) end (λ b. refl))
+
+dots_stand : (end : Option ℕ) → Stands (lexeme.Mark marks.Dots) end
+unfolding text
+dots_stand end = mark_stands marks.Dots end (any_stop (runs_on (lexeme.Mark marks.Dots)) end (λ b. refl))
+
+-- a `!` before an expression, and a `-` before one that does not begin with a `-`
+pub bang_stands : (end : Option ℕ) → Begins end → Stands (lexeme.Mark marks.Bang) end
+unfolding text
+bang_stands None h = absurd h
+bang_stands (Some b) h = mark_stands marks.Bang (Some b) (apart begins_part b 61 h refl)
+
+minus_stands : (end : Option ℕ) → Begins end → NoMinus end → Stands (lexeme.Mark marks.Minus) end
+unfolding text
+minus_stands None h n = absurd h
+minus_stands (Some b) h n = mark_stands marks.Minus (Some b) (let e = apart begins_part b 62 h refl in rw (n, e) refl)
+
+colon_stands : (end : Option ℕ) → Begins end → Stands (lexeme.Mark marks.Colon) end
+unfolding text
+colon_stands None h = absurd h
+colon_stands (Some b) h = mark_stands marks.Colon (Some b) (let e = apart begins_part b 58 h refl in let f = apart begins_part b 61 h refl in rw (e, f) refl)
+
+dot_stands : (n : List ℕ) → first_is begins_name n ≡ true → Stands (lexeme.Mark marks.Dot) (first_of n)
+unfolding text
+dot_stands [] h = absurd (cc)
+dot_stands (b ∷ bs) h = mark_stands marks.Dot (Some b) (apart begins_name b 46 h refl)
+
+dotted_follows : (ns : List (List ℕ)) (end : Option ℕ) → Follows end → Follows (first_byte (dotted ns) end)
+unfolding text
+dotted_follows [] end f = f
+dotted_follows (n ∷ ns) end f = refl
+
+dotted_parted : (ns : List (List ℕ)) (end : Option ℕ) → OwnNames ns → Follows end → WellParted (dotted ns) end
+dotted_parted [] end h f = tt
+dotted_parted (n ∷ ns) end h f =
+    let o = h.0 in
+    (dot_stands n o.begins, (record { scannable = o; stops = dotted_follows ns end f }, dotted_parted ns end h.1 f))
+
+head_stands : (n : List ℕ) (end : Option ℕ) → Scannable (path_head n) → Follows end → Stands (path_head n) end
+unfolding text
+head_stands n end h f = by (bytes_eq n (codes "self")) h where
+  by : (b : Bool) → Scannable (cond b (lexeme.Mark marks.SelfWord) (lexeme.Name n)) → Stands (cond b (lexeme.Mark marks.SelfWord) (lexeme.Name n)) end
+  by true h = record { scannable = tt; stops = f }
+  by false h = record { scannable = h; stops = f }
+
+path_parted : (ns : List (List ℕ)) (end : Option ℕ) → OwnPath ns → Follows end → WellParted (path ns) end
+path_parted [] end h f = absurd h
+path_parted (n ∷ ns) end h f = (head_stands n _ h.0 (dotted_follows ns end f), dotted_parted ns end h.1 f)
+
+integer_parted : (v : ℤ) (end : Option ℕ) → Signed v → Follows end → WellParted (integer v) end
+integer_parted (pos n) end h f = (number_stands n end h f, tt)
+integer_parted (negsuc n) end h f = let b = number_begins (suc n) h in (minus_stands (first_of (decimal (suc n))) b.0 b.1, (number_stands (suc n) end h f, tt))
+
+-- what is printed by a place is parted well, whatever follows that may follow it
+abbrev pub Parts : (Lead → List Ink) → Type 0
+Parts inks = (l : Lead) (end : Option ℕ) → Follows end → WellParted (inks l) end
+
+pub bracketed : (inks : List Ink) (end : Option ℕ) → ((e : Option ℕ) → Follows e → WellParted inks e) → WellParted (symbol marks.OpenRound ∷ (inks ++ symbol marks.CloseRound ∷ [])) end
+unfolding text
+bracketed inks end h = (open_round _, parted_append inks (symbol marks.CloseRound ∷ []) end (h (Some 41) refl) (close_round end, tt))
+
+pub part_parted : (l : Lead) (place : ℕ) (x : Tree) (end : Option ℕ) → Parts (λ k. bare x k) → Follows end → WellParted (part l place x (λ k. bare x k)) end
+part_parted l place x end h f = by (nat_lt place (level x) || misread l x) where
+  by : (b : Bool) → WellParted (cond b (symbol marks.OpenRound ∷ (bare x lead.Free ++ symbol marks.CloseRound ∷ [])) (bare x l)) end
+  by true = bracketed (bare x lead.Free) end (h lead.Free)
+  by false = h l end f
+
+pub around_parted : (a b : List Ink) (m : Mark) (end : Option ℕ) → WellParted a (Some 32) → WellParted b end → WellParted (around a m b) end
+around_parted a b m end h k = parted_append a (blank ∷ symbol m ∷ blank ∷ b) end h (before_blank m, k)
+
+call_parted : (m : Mark) (inks : List Ink) (end : Option ℕ) → Stands (lexeme.Mark m) (Some 40) → WellParted inks (Some 41) → WellParted (call m inks) end
+unfolding text
+call_parted m inks end s h = (s, bracketed_by h) where
+  bracketed_by : WellParted inks (Some 41) → WellParted (symbol marks.OpenRound ∷ (inks ++ symbol marks.CloseRound ∷ [])) end
+  bracketed_by h = (open_round _, parted_append inks (symbol marks.CloseRound ∷ []) end h (close_round end, tt))
+
+-- what is no greater than a width is a token's number
+within : (n : ℕ) → n ≤ widest → n ≤ greatest
+within n h = omega (arith, h)
+
+width_parted : (n : ℕ) (end : Option ℕ) → n ≤ greatest → WellParted (width n) end
+unfolding text
+width_parted n end h = (before_blank marks.Comma, (number_stands n (Some 41) h refl, (close_round end, tt)))
+
+widening_stands : (resize : Bool) → Stands (lexeme.Mark (widening resize)) (Some 40)
+unfolding text
+widening_stands true = mark_stands marks.Resize (Some 40) refl
+widening_stands false = mark_stands marks.Extend (Some 40) refl
+
+constant_stands : (signed : Bool) → Stands (lexeme.Mark (constant signed)) (Some 40)
+unfolding text
+constant_stands true = mark_stands marks.SwConst (Some 40) refl
+constant_stands false = mark_stands marks.UwConst (Some 40) refl
+
+truth_parted : (b : Bool) (end : Option ℕ) → Follows end → WellParted (symbol (if b then marks.True else marks.False) ∷ []) end
+unfolding text
+truth_parted true end f = (mark_stands marks.True end f, tt)
+truth_parted false end f = (mark_stands marks.False end f, tt)
+
+comma_follows : (xs : Trees) (end : Option ℕ) → Follows end → Follows (first_byte (after_comma xs) end)
+unfolding bare text
+comma_follows no_trees end f = f
+comma_follows (tree x xs) end f = refl
+
+-- the operand of a `-`
+negated_stands : (a : Tree) (end : Option ℕ) → Scannables a → WellParted (part lead.Minus 4 a (λ k. bare a k)) end → WellParted (symbol marks.Minus ∷ (gap a ++ part lead.Minus 4 a (λ k. bare a k))) end
+negated_stands a end h w = by (is_negation a) refl where
+  operand : List Ink
+  operand = part lead.Minus 4 a (λ k. bare a k)
+
+  by : (b : Bool) → is_negation a ≡ b → WellParted (symbol marks.Minus ∷ (cond b (blank ∷ []) [] ++ operand)) end
+  by true e = (before_blank marks.Minus, w)
+  by false e = (minus_stands (first_byte operand end) (part_begins lead.Minus 4 a end (λ k n. begins a k n h)) (part_no_minus 4 a end (λ l m. no_minus a end h l e m)), w)
+
+mutual
+  unfolding bare Scannables text
+
+  pub parted : (x : Tree) (l : Lead) (end : Option ℕ) → Scannables x → Follows end → WellParted (bare x l) end
+  parted (truth p b) l end h f = truth_parted b end f
+  parted (number p n) l end h f = (number_stands n end h f, tt)
+  parted (word p w) l end h f = (record { scannable = h; stops = f }, tt)
+  parted (name p ns) l end h f = path_parted ns end h f
+  parted (span p low high) l end h f = parted_append (integer low) (symbol marks.Dots ∷ integer high) end (integer_parted low (Some 46) h.0 refl) (dots_stand _, integer_parted high end h.1 f)
+  parted (set p es) l end h f = (open_curly _, parted_append (listed es) (symbol marks.CloseCurly ∷ []) end (listed_parted es (Some 125) h.1 refl) (close_curly end, tt))
+  parted (cases p bs) l end h f = (before_blank marks.Case, parted_append (branches bs) (symbol marks.Esac ∷ []) end (branches_parted bs (Some 101) h.1) (mark_stands marks.Esac end f, tt))
+  parted (choice p c a b) l end h f =
+      let l' = left_level 13 in
+      let r' = right_level 13 in
+      around_parted (part l l' c (λ k. bare c k)) _ marks.Question end (part_parted l l' c (Some 32) (λ k e g. parted c k e h.0 g) refl)
+      (around_parted (bare a lead.Free) (part lead.Free r' b (λ k. bare b k)) marks.Colon end (parted a lead.Free (Some 32) h.1 refl) (part_parted lead.Free r' b end (λ k e g. parted b k e h.2 g) f))
+  parted (one p op1.Not a) l end h f = (bang_stands _ (part_begins lead.Free 2 a end (λ k n. begins a k n h)), part_parted lead.Free 2 a end (λ k e g. parted a k e h g) f)
+  parted (one p op1.Neg a) l end h f = negated_stands a end h (part_parted lead.Minus 4 a end (λ k e g. parted a k e h g) f)
+  parted (one p o a) l end h f = call_parted (mark_of_one o) (bare a lead.Free) end (mark_stands (mark_of_one o) (Some 40) refl) (parted a lead.Free (Some 41) h refl)
+  parted (two p o a b) l end h f =
+      let l' = left_level (level (two p o a b)) in
+      let r' = right_level (level (two p o a b)) in
+      around_parted (part l l' a (λ k. bare a k)) (part lead.Free r' b (λ k. bare b k)) (mark_of_two o) end (part_parted l l' a (Some 32) (λ k e g. parted a k e h.0 g) refl) (part_parted lead.Free r' b end (λ k e g. parted b k e h.1 g) f)
+  parted (select p a high low) l end h f =
+      parted_append (part l 1 a (λ k. bare a k)) _ end (part_parted l 1 a (Some 91) (λ k e g. parted a k e h.0 g) refl)
+      (open_square _, (number_stands high (Some 58) (within high h.1) refl, (colon_stands _ (number_begins low (within low h.2)).0, (number_stands low (Some 93) (within low h.2) refl, (close_square end, tt)))))
+  parted (next p a) l end h f = call_parted marks.Next (bare a lead.Free) end (mark_stands marks.Next (Some 40) refl) (parted a lead.Free (Some 41) h refl)
+  parted (widen p resize a n) l end h f = (widening_stands resize, (open_round _, parted_append (bare a lead.Free) (width n) end (parted a lead.Free (Some 44) h.0 refl) (width_parted n end (within n h.1))))
+  parted (const p signed v n) l end h f = (constant_stands signed, (open_round _, parted_append (integer v) (width n) end (integer_parted v (Some 44) h.0 refl) (width_parted n end (within n h.1))))
+  parted (count p es) l end h f = call_parted marks.Count (listed es) end (mark_stands marks.Count (Some 40) refl) (listed_parted es (Some 41) h.1 refl)
+
+  listed_parted : (xs : Trees) (end : Option ℕ) → EachScannable xs → Follows end → WellParted (listed xs) end
+  listed_parted no_trees end h f = tt
+  listed_parted (tree x xs) end h f = parted_append (bare x lead.Free) (after_comma xs) end (parted x lead.Free _ h.0 (comma_follows xs end f)) (others_parted xs end h.1 f)
+
+  others_parted : (xs : Trees) (end : Option ℕ) → EachScannable xs → Follows end → WellParted (after_comma xs) end
+  others_parted no_trees end h f = tt
+  others_parted (tree x xs) end h f = (before_blank marks.Comma, parted_append (bare x lead.Free) (after_comma xs) end (parted x lead.Free _ h.0 (comma_follows xs end f)) (others_parted xs end h.1 f))
+
+  branches_parted : (bs : Arms) (end : Option ℕ) → ArmsScannable bs → WellParted (branches bs) end
+  branches_parted no_arms end h = tt
+  branches_parted (arm c v bs) end h =
+      around_parted (bare c lead.Free) _ marks.Colon end (parted c lead.Free (Some 32) h.0 refl)
+      (parted_append (bare v lead.Free) (symbol marks.Semicolon ∷ blank ∷ branches bs) end (parted v lead.Free (Some 59) h.1 refl) (before_blank marks.Semicolon, branches_parted bs end h.2))

@@ -1,0 +1,58 @@
+-- What is printed of what a text spells is a text that spells it again, places aside.
+use Rattle.std.proofs.Common.{◌≡◌, ℕ, false, List, [], refl, subst, arith}
+use Rattle.smv_tree.specs.Models.{Claim}
+use Rattle.smv_tree.specs.Trees.{Tree}
+use Rattle.smv_grammar.specs.Forms.{deepest}
+use Rattle.smv_rules.specs.Expressions.{expr}
+use Rattle.smv_rules.specs.Sorts.{Expression, Formula}
+use Rattle.smv_rules.specs.Texts.{SpellsBy, SpellsExpr, SpellsFormulaText, formula}
+use Rattle.smv_rules.proofs.PlainLaws.{expression_plain, formula_plain}
+use Rattle.smv_printing.specs.Alike.{Alike, AlikeClaims, Reparsed, ReparsedFormula}
+use Rattle.smv_printing.specs.declared.lead.Lead.TheVariants as lead
+use Rattle.smv_printing.specs.Printing.{bare, claim_inks, claim_printed, printed}
+use Rattle.smv_printing.proofs.Says.{lays}
+use Rattle.smv_printing.proofs.SaysLevels.{loosely}
+use Rattle.smv_printing.proofs.RespelledTrees.{respelled}
+use Rattle.smv_printing.proofs.Fits.{Fits, free_part}
+use Rattle.smv_printing.proofs.GivenParts.{level_gives}
+use Rattle.smv_printing.proofs.Gave.{gave, not_clean}
+use Rattle.smv_printing.proofs.ClaimsFit.{claim_depth, placed_most}
+use Rattle.smv_printing.proofs.ClaimsGiven.{claim_gave}
+use Rattle.smv_printing.proofs.ClaimsRespelled.{formula_again as said_again}
+use Rattle.smv_printing.proofs.PrintedTexts.{claim_scanned, printed_scanned, text_scannable}
+
+said_expression : (x : Tree) (y : Expression) → SpellsBy expr (printed x) y → Alike x y.tree → Reparsed x
+said_expression x y s a = record { tree = y.tree; spelled = record { given = y; spelled = s; is = refl }; alike = a }
+
+said_formula : (c : Claim) (y : Formula) → SpellsBy formula (claim_printed c) y → AlikeClaims c y.claim → ReparsedFormula c
+said_formula c y s a = record { claim = y.claim; spelled = record { given = y; spelled = s; is = refl }; alike = a }
+
+by_expression : (bytes : List ℕ) (x : Expression) → SpellsBy expr bytes x → Reparsed x.tree
+by_expression bytes x s =
+    let P : ℕ → Expression → Type 0 = λ j y. (j ≡ 0) × Fits false 15 y in
+    let a = text_scannable bytes s.tokens s.scanned in
+    let g = gave s.spelled false 0 P a (not_clean s.tokens) (level_gives 15 false 0 P (λ x f. (refl, f))) in
+    let f = g.holds.1 in
+    let d = free_part false 15 x f in
+    let small = f.within in
+    let back = printed_scanned x.tree f.well in
+    let y = (loosely x.tree (respelled x.tree f.well) deepest (omega (arith, d, small)) (omega (arith, d, small))).along back.tokens [] (lays (bare x.tree lead.Free) back.tokens back.laid) refl (text_scannable (printed x.tree) back.tokens back.scanned) in
+    said_expression x.tree y.given (record { tokens = back.tokens; scanned = back.scanned; spelled = (expression_plain back.tokens y.given).0 y.follows }) y.holds.alike
+
+by_formula : (bytes : List ℕ) (x : Formula) → SpellsBy formula bytes x → ReparsedFormula x.claim
+by_formula bytes x s =
+    let a = text_scannable bytes s.tokens s.scanned in
+    let g = claim_gave deepest s.tokens [] x ((formula_plain s.tokens x).1 s.spelled) a in
+    let f = g.fits in
+    let e = f.shallow in
+    let small = f.within in
+    let d = (placed_most 6 x.claim (claim_depth x.claim)).1 in
+    let back = claim_scanned x.claim f.well in
+    let y = (said_again x.claim f.well f.brackets (omega (arith, d, e, small))).along back.tokens [] (lays (claim_inks x.claim) back.tokens back.laid) refl (text_scannable (claim_printed x.claim) back.tokens back.scanned) in
+    said_formula x.claim y.given (record { tokens = back.tokens; scanned = back.scanned; spelled = (formula_plain back.tokens y.given).0 y.follows }) y.holds.alike
+
+pub expression_reparsed : (bytes : List ℕ) (x : Tree) → SpellsExpr bytes x → Reparsed x
+expression_reparsed bytes x s = subst Reparsed s.is (by_expression bytes s.given s.spelled)
+
+pub formula_reparsed : (bytes : List ℕ) (c : Claim) → SpellsFormulaText bytes c → ReparsedFormula c
+formula_reparsed bytes c s = subst ReparsedFormula s.is (by_formula bytes s.given s.spelled)

@@ -1,0 +1,241 @@
+-- Following rules along what is printed.
+use denote.Enum.Bare.{true_same}
+use Rattle.std.proofs.Common.{◌≡◌, ◌≤◌, ◌<◌, ℕ, zero, suc, true, false, cond, List, [], ◌∷◌, ◌++◌, Some, refl, sym, subst, ap, arith}
+use Rattle.std.proofs.lemmas.Bool.{lt-ltb}
+use Rattle.smv_tree.specs.declared.place.Place.{Place}
+use Rattle.smv_tree.specs.Trees.{Tree}
+use Rattle.smv_token.specs.contracts.mark.Mark.{the_type}
+use Rattle.smv_token.specs.declared.mark.Mark.{Mark}
+use Rattle.smv_token.specs.declared.token.Token.{Token}
+use Rattle.smv_token.specs.declared.token.Lexeme.{Lexeme}
+use Rattle.smv_token.specs.declared.token.Lexeme.TheVariants as lexeme
+use Rattle.smv_grammar.specs.Forms.{begins_dots, deepest, is_dots}
+use Rattle.smv_grammar.specs.IsMark.{same_mark}
+use Rattle.smv_rules.specs.Keys.{Key, Payload, if_there, sees}
+use Rattle.smv_rules.specs.Keys as key
+use Rattle.smv_rules.specs.Sorts.{Expression, Gift, Sort, a_count, a_place, an_expression}
+use Rattle.smv_rules.specs.Rules.{Part, Rule, gives, too_deep, must, may, part, then, again, ◌>>=◌}
+use Rattle.smv_rules.specs.Table.{table}
+use Rattle.smv_rules.specs.Expressions.{deeper, mark, number}
+use Rattle.smv_rules.proofs.Inverting.{Inverted, inverted}
+use Rattle.smv_rules.specs.Follows.{plain, Follows, Ruled, done, has, takes, skips, nests, stays, chains, stops, goes_on}
+use Rattle.smv_printing.specs.Alike.{Laid, inked, lexemes}
+use Rattle.smv_printing.specs.Printing.{Ink, blank, numeral, symbol, token}
+use Rattle.smv_printing.specs.Scannables.{AllScannable}
+
+abbrev pub stands : Place → Lexeme → Token
+stands p w = record { place = p; lexeme = w }
+
+-- The tokens up to the rest, wherever they stand, are what is printed.
+pub record LaysOne (w : Lexeme) (Others : List Token → Type 0) (ts : List Token) : Type 0 where
+  pub place : Place
+  pub others : List Token
+  pub is : ts ≡ stands place w ∷ others
+  pub behind : Others others
+
+abbrev pub Lays : List Ink → List Token → List Token → Type 0
+Lays [] ts rest = (ts ≡ rest)
+Lays (blank ∷ is) ts rest = Lays is ts rest
+Lays (token w ∷ is) ts rest = LaysOne w (λ us. Lays is us rest) ts
+
+-- what is printed first, and what is printed then
+pub record Cut (is js : List Ink) (ts rest : List Token) : Type 0 where
+  pub between : List Token
+  pub before : Lays is ts between
+  pub behind : Lays js between rest
+
+pub cut : (is js : List Ink) (ts rest : List Token) → Lays (is ++ js) ts rest → Cut is js ts rest
+cut [] js ts rest l = record { between = ts; before = refl; behind = l }
+cut (blank ∷ is) js ts rest l = let c = cut is js ts rest l in record { between = c.between; before = c.before; behind = c.behind }
+cut (token w ∷ is) js ts rest l =
+    let c = cut is js l.others rest l.behind in
+    record { between = c.between; before = record { place = l.place; others = l.others; is = l.is; behind = c.before }; behind = c.behind }
+
+same_head : {A : Type 0} (x y : A) (xs ys : List A) → x ∷ xs ≡ y ∷ ys → (x ≡ y) × (xs ≡ ys)
+same_head x y xs ys e = (cc, cc)
+
+no_cons : {A : Type 0} (x : A) (xs : List A) → [] ≡ x ∷ xs → ⊥
+no_cons x xs e = absurd (cc)
+
+pub lays : (is : List Ink) (us : List Token) → Laid us is → Lays is us []
+lays [] [] h = refl
+lays [] (t ∷ us) h = absurd (no_cons t.lexeme (lexemes us) (sym h))
+lays (blank ∷ is) us h = lays is us h
+lays (token w ∷ is) [] h = absurd (no_cons w (inked is) h)
+lays (token w ∷ is) (t ∷ us) h =
+    let e = same_head t.lexeme w (lexemes us) (inked is) h in
+    record { place = t.place; others = us; is = ap (λ v. stands t.place v ∷ us) e.0; behind = lays is us e.1 }
+
+-- what is printed begins with no `..`
+abbrev pub NoDots : List Ink → Type 0
+NoDots [] = Unit {0}
+NoDots (blank ∷ is) = NoDots is
+NoDots (token w ∷ is) = (is_dots w ≡ false)
+
+pub lays_quiet : (is : List Ink) (ts rest : List Token) → Lays is ts rest → NoDots is → begins_dots rest ≡ false → begins_dots ts ≡ false
+lays_quiet [] ts rest l n q = subst (λ us. begins_dots us ≡ false) (sym l) q
+lays_quiet (blank ∷ is) ts rest l n q = lays_quiet is ts rest l n q
+lays_quiet (token w ∷ is) ts rest l n q = subst (λ us. begins_dots us ≡ false) (sym l.is) n
+
+-- what stands behind tokens that texts have
+pub past : {ts us : List Token} {t : Token} → ts ≡ t ∷ us → AllScannable ts → AllScannable us
+past e a = (subst AllScannable e a).1
+
+pub lays_scannable : (is : List Ink) (ts rest : List Token) → Lays is ts rest → AllScannable ts → AllScannable rest
+lays_scannable [] ts rest l a = subst AllScannable l a
+lays_scannable (blank ∷ is) ts rest l a = lays_scannable is ts rest l a
+lays_scannable (token w ∷ is) ts rest l a = lays_scannable is l.others rest l.behind (past l.is a)
+
+-- what a rule gives of tokens
+pub record Said (n : ℕ) {s : Sort} (r : Rule s) (G : Gift s → Type 0) (ts rest : List Token) : Type 0 where
+  pub given : Gift s
+  pub follows : Follows plain n s r ts rest given
+  pub holds : G given
+
+-- Tokens that texts have and that are what is printed, where no `..` follows them, are what the rule
+-- says.
+pub record Says (n : ℕ) {s : Sort} (r : Rule s) (is : List Ink) (G : Gift s → Type 0) : Type 0 where
+  pub along : (ts rest : List Token) → Lays is ts rest → begins_dots rest ≡ false → AllScannable ts → Said n r G ts rest
+
+pub said_at : {n : ℕ} {s : Sort} {r : Rule s} {G : Gift s → Type 0} {ts us rest : List Token} → ts ≡ us → Said n r G us rest → Said n r G ts rest
+said_at {n} {s} {r} {G} {ts} {us} {rest} e h = subst (λ vs. Said n r G vs rest) (sym e) h
+
+pub says_blank : {n : ℕ} {s : Sort} {r : Rule s} {is : List Ink} {G : Gift s → Type 0} → Says n r is G → Says n r (blank ∷ is) G
+says_blank h = record { along = λ ts rest l q a. h.along ts rest l q a }
+
+pub says_more : {n : ℕ} {s : Sort} {r : Rule s} {is : List Ink} {G H : Gift s → Type 0} → ((x : Gift s) → G x → H x) → Says n r is G → Says n r is H
+says_more g h = record { along = λ ts rest l q a. let y = h.along ts rest l q a in record { given = y.given; follows = y.follows; holds = g y.given y.holds } }
+
+pub says_gives : {n : ℕ} {s : Sort} {x : Gift s} {G : Gift s → Type 0} → G x → Says n (gives s x) [] G
+says_gives {n} {s} {x} {G} g = record { along = λ ts rest l q a. said_at l (record { given = x; follows = done n s x rest; holds = g }) }
+
+-- a token that is seen, whatever is printed behind it
+pub record Sees (k : Key) (w : Lexeme) (is : List Ink) (load : Place → Payload k) : Type 0 where
+  pub at : (p : Place) (us rest : List Token) → Lays is us rest → begins_dots rest ≡ false → sees k (stands p w) us ≡ Some (load p)
+
+-- what stands behind it may be anything
+pub sees_alone : {k : Key} {w : Lexeme} {is : List Ink} {load : Place → Payload k} → ((p : Place) (us : List Token) → sees k (stands p w) us ≡ Some (load p)) → Sees k w is load
+sees_alone e = record { at = λ p us rest l q. e p us }
+
+pub says_must : {n : ℕ} {s : Sort} {k : Key} {f : Payload k → Rule s} {w : Lexeme} {is : List Ink} {G : Gift s → Type 0} (load : Place → Payload k) → Sees k w is load → ((p : Place) → Says n (f (load p)) is G) → Says n (must s k f) (token w ∷ is) G
+says_must {n} {s} {k} {f} {w} {is} {G} load e h = record {
+  along = λ ts rest l q a.
+      let y = (h l.place).along l.others rest l.behind q (past l.is a) in
+      said_at l.is (record { given = y.given; follows = has n s k f (stands l.place w) (load l.place) l.others rest y.given (e.at l.place l.others rest l.behind q) y.follows; holds = y.holds });
+}
+
+pub says_takes : {n : ℕ} {s : Sort} {k : Key} {f : Payload k → Rule s} {r : Rule s} {w : Lexeme} {is : List Ink} {G : Gift s → Type 0} (load : Place → Payload k) → Sees k w is load → ((p : Place) → Says n (f (load p)) is G) → Says n (may s k f r) (token w ∷ is) G
+says_takes {n} {s} {k} {f} {r} {w} {is} {G} load e h = record {
+  along = λ ts rest l q a.
+      let y = (h l.place).along l.others rest l.behind q (past l.is a) in
+      said_at l.is (record { given = y.given; follows = takes n s k f r (stands l.place w) (load l.place) l.others rest y.given (e.at l.place l.others rest l.behind q) y.follows; holds = y.holds });
+}
+
+pub says_skips : {n : ℕ} {s : Sort} {k : Key} {f : Payload k → Rule s} {r : Rule s} {is : List Ink} {G : Gift s → Type 0} → ((ts : List Token) → Ruled k ts) → Says n r is G → Says n (may s k f r) is G
+says_skips {n} {s} {k} {f} {r} u h = record {
+  along = λ ts rest l q a.
+      let y = h.along ts rest l q a in
+      record { given = y.given; follows = skips n s k f r ts rest y.given (u ts) y.follows; holds = y.holds };
+}
+
+pub says_then : {n : ℕ} {z s : Sort} {r : Rule z} {f : Gift z → Rule s} {is js : List Ink} {G : Gift s → Type 0} (H : Gift z → Type 0) → Says n r is H → NoDots js → ((a : Gift z) → H a → Says n (f a) js G) → Says n (then z s r f) (is ++ js) G
+says_then {n} {z} {s} {r} {f} {is} {js} {G} H h d g = record {
+  along = λ ts rest l q a.
+      let c = cut is js ts rest l in
+      let x = h.along ts c.between c.before (lays_quiet js c.between rest c.behind d q) a in
+      let y = (g x.given x.holds).along c.between rest c.behind q (lays_scannable is ts c.between c.before a) in
+      record { given = y.given; follows = chains n z s r f ts c.between rest x.given y.given x.follows y.follows; holds = y.holds };
+}
+
+-- what is said once more with nothing printed behind it
+pub says_ends : {n : ℕ} {z s : Sort} {r : Rule z} {f : Gift z → Rule s} {is : List Ink} {G : Gift s → Type 0} (H : Gift z → Type 0) → Says n r is H → ((a : Gift z) → H a → Says n (f a) [] G) → Says n (then z s r f) is G
+says_ends {n} {z} {s} {r} {f} {is} {G} H h g = record {
+  along = λ ts rest l q a.
+      let x = h.along ts rest l q a in
+      let y = (g x.given x.holds).along rest rest refl q (lays_scannable is ts rest l a) in
+      record { given = y.given; follows = chains n z s r f ts rest rest x.given y.given x.follows y.follows; holds = y.holds };
+}
+
+pub says_stops : {n : ℕ} {s : Sort} {k : Key} {f : Gift s → Payload k → Rule s} {a : Gift s} {G : Gift s → Type 0} → ((us : List Token) → Ruled k us) → G a → Says n (again s k f a) [] G
+says_stops {n} {s} {k} {f} {a} {G} u g = record { along = λ ts rest l q o. said_at l (record { given = a; follows = stops n s k f a rest (u rest); holds = g }) }
+
+pub same_self : (m : Mark) → same_mark m m ≡ true
+unfolding same_mark
+same_self m = true_same the_type m m refl
+
+mark_seen : (m : Mark) (p : Place) (us : List Token) → sees (key.mark m) (stands p (lexeme.Mark m)) us ≡ Some p
+unfolding sees
+mark_seen m p us = ap (λ b. if_there b p) (same_self m)
+
+pub sees_mark : {m : Mark} {is : List Ink} → Sees (key.mark m) (lexeme.Mark m) is (λ p. p)
+sees_mark {m} {is} = sees_alone (mark_seen m)
+
+pub says_mark : {n : ℕ} {s : Sort} {m : Mark} {f : Place → Rule s} {is : List Ink} {G : Gift s → Type 0} → ((p : Place) → Says n (f p) is G) → Says n (mark m >>= f) (symbol m ∷ is) G
+says_mark {n} {s} {m} {f} {is} {G} h = record {
+  along = λ ts rest l q a.
+      let p = l.place in
+      let us = l.others in
+      let y = (h p).along us rest l.behind q (past l.is a) in
+      said_at l.is (record { given = y.given; follows = chains n a_place s (mark m) f (stands p (lexeme.Mark m) ∷ us) us rest p y.given (has n a_place (key.mark m) (λ p. gives a_place p) (stands p (lexeme.Mark m)) p us us p (mark_seen m p us) (done n a_place p us)) y.follows; holds = y.holds });
+}
+
+pub says_number : {n : ℕ} {s : Sort} {v : ℕ} {f : ℕ → Rule s} {is : List Ink} {G : Gift s → Type 0} → Says n (f v) is G → Says n (number >>= f) (numeral v ∷ is) G
+unfolding sees
+says_number {n} {s} {v} {f} {is} {G} h = record {
+  along = λ ts rest l q a.
+      let p = l.place in
+      let us = l.others in
+      let y = h.along us rest l.behind q (past l.is a) in
+      said_at l.is (record { given = y.given; follows = chains n a_count s number f (stands p (lexeme.Number v) ∷ us) us rest v y.given (has n a_count key.number (λ n. gives a_count n) (stands p (lexeme.Number v)) v us us v refl (done n a_count v us)) y.follows; holds = y.holds });
+}
+
+-- a part is nested once more, where one nesting more may be opened
+says_nests : {n : ℕ} {s : Sort} {p : Part s} {r : Rule s} {is : List Ink} {G : Gift s → Type 0} → Says n (table p) is G → Says (suc n) (part s p r) is G
+says_nests {n} {s} {p} {r} h = record { along = λ ts rest l q a. let y = h.along ts rest l q a in record { given = y.given; follows = nests n s p r ts rest y.given y.follows; holds = y.holds } }
+
+pub says_part : (n d : ℕ) {s : Sort} {p : Part s} {r : Rule s} {is : List Ink} {G : Gift s → Type 0} → 1 ≤ d → d ≤ n → ((m : ℕ) → d ≤ suc m → Says m (table p) is G) → Says n (part s p r) is G
+says_part zero d some le h = absurd (omega (arith, some, le))
+says_part (suc n) d some le h = says_nests (h n le)
+
+-- one deeper, which is not too deep
+pub says_deeper : {n : ℕ} (x : Tree) (d : ℕ) {G : Expression → Type 0} → d < deepest → G (record { tree = x; depth = suc d; bare = false }) → Says n (deeper x d) [] G
+says_deeper {n} x d {G} lt g = subst (λ b. Says n (cond b (gives an_expression (record { tree = x; depth = suc d; bare = false })) (too_deep an_expression)) [] G) (sym (lt-ltb d deepest lt)) (says_gives g)
+
+-- One more of what comes again, behind others.
+More : (n : ℕ) {s : Sort} → Rule s → List Token → List Token → Gift s → Type 0
+More n (again s k f a) ts us b = ((us : List Token) → Ruled k us) → (t : Token) (p : Payload k) (vs rest : List Token) (c : Gift s) → us ≡ t ∷ vs → sees k t vs ≡ Some p → Follows plain n s (f b p) vs rest c → Follows plain n s (again s k f a) ts rest c
+More n r ts us b = Unit {0}
+
+one_more : {n : ℕ} {s : Sort} {r : Rule s} {ts us : List Token} {b : Gift s} → Follows plain n s r ts us b → More n r ts us b
+unfolding More
+one_more (done n s x ts) = tt
+one_more (has n s k f t p ts rest x e h) = tt
+one_more (takes n s k f r t p ts rest x e h) = tt
+one_more (skips n s k f r ts rest x u h) = tt
+one_more (nests n s p r ts rest x h) = tt
+one_more (stays s p r ts rest x h) = tt
+one_more (chains n z s r f ts us rest a x h j) = tt
+one_more (stops n s k f a ts u) = λ d t p vs rest c e see h. let P : List Token → Type 0 = λ us. Follows plain n s (again s k f a) us rest c in subst P (sym e) (goes_on n s k f a t p vs rest rest c c see h (stops n s k f c rest (d rest)))
+one_more (goes_on n s k f a t p ts us rest b x e h j) = λ d t' p' vs rest' c e' see h'. goes_on n s k f a t p ts us rest' b c e h (one_more j d t' p' vs rest' c e' see h')
+
+pub says_joined : {n : ℕ} {s : Sort} {r : Rule s} {k : Key} {f : Gift s → Payload k → Rule s} (w : Lexeme) {is ks : List Ink} (js : List Ink) {G : Gift s → Type 0} (load : Place → Payload k) → ((us : List Token) → Ruled k us) → Sees k w ks load → ((ts rest : List Token) → Lays js ts rest → LaysOne w (λ us. Lays ks us rest) ts) → NoDots js → (H : Gift s → Type 0) → Says n (then s s r (λ a. again s k f a)) is H → ((b : Gift s) (p : Place) → H b → Says n (f b (load p)) ks G) → Says n (then s s r (λ a. again s k f a)) (is ++ js) G
+unfolding More Inverted
+says_joined {n} {s} {r} {k} {f} w {is} {ks} js {G} load u e o d H h g = record {
+  along = λ ts rest l q a.
+      let c = cut is js ts rest l in
+      let x = h.along ts c.between c.before (lays_quiet js c.between rest c.behind d q) a in
+      let i = inverted x.follows in
+      let t = o c.between rest c.behind in
+      let y = (g x.given t.place x.holds).along t.others rest t.behind q (past t.is (lays_scannable is ts c.between c.before a)) in
+      record { given = y.given; follows = chains n s s r (λ a. again s k f a) ts i.between rest i.given y.given i.before (one_more i.behind u (stands t.place w) (load t.place) t.others rest y.given t.is (e.at t.place t.others rest t.behind q) y.follows); holds = y.holds };
+}
+
+-- one of what comes again, before others
+pub says_goes_on : {n : ℕ} {s : Sort} {k : Key} {f : Gift s → Payload k → Rule s} {w : Lexeme} (is : List Ink) {js : List Ink} {G : Gift s → Type 0} {a : Gift s} (load : Place → Payload k) → Sees k w (is ++ js) load → (H : Gift s → Type 0) → ((p : Place) → Says n (f a (load p)) is H) → NoDots js → ((b : Gift s) → H b → Says n (again s k f b) js G) → Says n (again s k f a) (token w ∷ (is ++ js)) G
+says_goes_on {n} {s} {k} {f} {w} is {js} {G} {a} load e H h d g = record {
+  along = λ ts rest l q o.
+      let c = cut is js l.others rest l.behind in
+      let x = (h l.place).along l.others c.between c.before (lays_quiet js c.between rest c.behind d q) (past l.is o) in
+      let y = (g x.given x.holds).along c.between rest c.behind q (lays_scannable is l.others c.between c.before (past l.is o)) in
+      said_at l.is (record { given = y.given; follows = goes_on n s k f a (stands l.place w) (load l.place) l.others c.between rest x.given y.given (e.at l.place l.others rest l.behind q) x.follows y.follows; holds = y.holds });
+}

@@ -1,0 +1,4 @@
+pub mod Printing
+pub mod Alike
+pub mod Scannables
+pub mod Beside
