@@ -1,5 +1,6 @@
 -- What the loop over the operators behind an expression rests on, while operands wait.
-use Rattle.std.proofs.Common.{◌≡◌, ◌<◌, ◌≤◌, ◌-◌, ◌++◌, ℕ, max, List, [], ◌∷◌, length, Option, Some, None, Result, Ok, Err, refl, sym, ◌∙◌, ap, subst, arith}
+use Rattle.std.proofs.Common.{◌≡◌, ◌<◌, ◌≤◌, ◌+◌, ◌-◌, ◌*◌, ◌++◌, ◌⊎◌, inl, inr, ℕ, max, List, [], ◌∷◌, length, take, Option, Some, None, Result, Ok, Err, refl, sym, ◌∙◌, ap, subst, arith}
+use Rattle.std.proofs.lemmas.List.{length-append}
 use Rattle.smv_tree.specs.declared.place.Place.{Place}
 use Rattle.smv_tree.specs.declared.expr.Op2.{Op2}
 use Rattle.smv_tree.specs.Trees.{two}
@@ -48,7 +49,23 @@ pub none_yet : (n : ℕ) (ws : List Waiting) (r out : Got Expression) → ws ≡
 unfolding all_resumed
 none_yet n ws r out z e = ap (λ ws. all_resumed n ws r) z ∙ sym e
 
+pub none_left : {W : Type 0} (k : ℕ) (ws vs : List W) → ws ≡ vs ++ [] → vs ≡ take (k - 1) ws → k ≡ 0 → ws ≡ []
+none_left k ws vs e r z = let s : k - 1 ≡ 0 = omega (arith, z) in e ∙ ap (λ vs. vs ++ []) (r ∙ ap (λ j. take j ws) s)
+
+-- one waits less, or one more behind a token less
+pub resumed_less : (n : ℕ) (ws vs : List Waiting) (w : Waiting) (x y : Place_of) → ws ≡ vs ++ w ∷ [] → run n (both_of (expression_of w.left) w.op w.place x.0) x.1 ≡ Ok y → 2 * length y.1 + length vs < 2 * length x.1 + length ws
+resumed_less n ws vs w x y z e =
+    let within : length y.1 ≤ length x.1 = left_within n an_expression (both_of (expression_of w.left) w.op w.place x.0) x.1 y.1 y.0 e in
+    omega (arith, within, ap length z, length-append vs (w ∷ []))
+
+pub waits_less : {W : Type 0} (ws vs : List W) (w : W) (ts us rest : List Token) → vs ≡ ws ++ w ∷ [] → length us < length ts → length rest ≤ length us → 2 * length rest + length vs < 2 * length ts + length ws
+waits_less ws vs w ts us rest z fewer within = omega (arith, fewer, within, ap length z, length-append ws (w ∷ []))
+
 -- no operator of a level within reach is next
+pub out_of_reach : (i l next : ℕ) → (next ≤ i) ⊎ ((i < next) × (l < next)) → i < next → l < next
+out_of_reach i l next (inl h) g = absurd (omega (arith, h, g))
+out_of_reach i l next (inr h) g = h.1
+
 ends : (n i l next : ℕ) (x : Place_of) → next ≡ next_level x.1 → (i < next → l < next) → up n i l x ≡ Ok x
 ends n i l next x e h = climb_none n i (l - i) x (λ g. omega (arith, e, g, h (omega (arith, e, g))))
 

@@ -1,8 +1,7 @@
 -- Operands that wait for what their operator's right operand is.
 use Rattle.std.specs.Prelude.{ℕ, max, List, [], ◌∷◌}
 use Rattle.smv_tree.specs.Trees.{two}
-use Rattle.smv_reading.specs.Reading.{◌>>=◌}
-use Rattle.smv_text_reading.specs.RuleReading.{Got}
+use Rattle.smv_rules.specs.Reading.{◌>>=◌, Got}
 use Rattle.smv_rules.specs.Running.{run}
 use Rattle.smv_rules.specs.Sorts.{Expression}
 use Rattle.smv_rules.specs.Expressions.{deeper}

@@ -3,7 +3,7 @@ use Rattle.std.proofs.lemmas.Result.{err_from_is_err_and}
 use Rattle.smv_tree.specs.Trees as tree
 use Rattle.smv_tree.specs.declared.expr.Expr.TheFolds.{the_lemmas}
 use Rattle.smv_reader.specs.Halts.{Reads}
-use Rattle.smv_rules.specs.Expressions.{applied, expr, level, more_branches, more_operands, nested, operands, primary, primary_from}
+use Rattle.smv_rules.specs.Expressions.{applied, expr, level, more_branches, more_operands, nested, operands, prefixed, primary, primary_from}
 use Rattle.smv_rules.specs.Keys.{path, primary_of, word}
 use Rattle.smv_rules.specs.Running.{run}
 use Rattle.smv_rules.proofs.Meeting.{done_read, then_read}
@@ -12,9 +12,9 @@ use Rattle.smv_reader.specs.Climbing.{infix_at, next_level}
 use Rattle.smv_reader.specs.Views.{branches_of, expression_of, found, opener_of, opening_of, operands_of}
 use Rattle.smv_reader.specs.declared.opening.Opener.{Opener}
 use Rattle.smv_reader.specs.declared.opening.Opening.{Opening}
-use Rattle.smv_reader.proofs.Levels.{closed_less, closes_goes, closes_halts, none_waits, none_yet, resumes_goes, resumes_halts, waits_goes, waits_halts}
+use Rattle.smv_reader.proofs.Levels.{closed_less, closes_goes, closes_halts, none_left, none_waits, none_yet, out_of_reach, resumed_less, resumes_goes, resumes_halts, waits_goes, waits_halts, waits_less}
 use Rattle.smv_reader.proofs.Loops.{loop_fails}
-use Rattle.smv_reader.proofs.Turning.{front_first, left_within, prefix_less, infix_level, primary_at, prefixed_halts, prefixed_read, primary_halts, primary_read}
+use Rattle.smv_reader.proofs.Turning.{front_first, infix_less, left_within, prefix_less, infix_level, primary_at, prefixed_halts, prefixed_read, primary_halts, primary_read}
 use Rattle.smv_reader.proofs.reader.Reader.+expression.Goals as goal
 
 pub begun-returns-in-SelfPath : goal.begun-returns-in-SelfPath
@@ -24,41 +24,50 @@ begun-returns-in-SelfPath t c =
 
 -- nothing waits yet
 pub level-turns-init : goal.level-turns-init
-level-turns-init t c = none_yet _ _ _ _ ? c.in_ok-reached.ensures.value
+level-turns-init t c = none_yet _ _ _ _ c.new-waiting.ensures.items c.in_ok-reached.ensures.value
 
+-- no operator of a level within reach is next
 pub level-returns-in_default : goal.level-returns-in_default
-level-returns-in_default t c = ?
+level-returns-in_default t c =
+    let none = none_left _ _ _ c.in_default.ensures.items c.in_default.ensures.rest c.in_default.ensures.cases.0 in
+    none_waits _ _ _ _ _ (found (c.turns.left, c.turns.rest)) _ none c.next_level-next.ensures (out_of_reach _ _ _ c.then-next-reached.either) c.turns.invariant
 
 pub level-returns-in_err-left : goal.level-returns-in_err-left
-level-returns-in_err-left t c = ?
+level-returns-in_err-left t c =
+    let p = err_from_is_err_and c.from_residual-in_err-left.result c.from_residual-in_err-left.ensures.1 in
+    rw (p.1, p.2) (resumes_halts _ _ _ _ _ _ _ c.in-Some.outer (found (c.turns.left, c.turns.rest)) _ c.in-Some.ensures.items c.next_level-next.ensures (out_of_reach _ _ _ c.then-next-reached.either) c.in_err-left.ensures c.turns.invariant)
 
 pub level-turns-smaller-then-next-reached : goal.level-turns-smaller-then-next-reached
-level-turns-smaller-then-next-reached t c = ?
+level-turns-smaller-then-next-reached t c = resumed_less _ _ _ c.in-Some.outer (found (c.turns.left, c.turns.rest)) (found (c.in_ok-left.field-0-0, c.in_ok-left.field-0-1)) c.in-Some.ensures.items c.in_ok-left.ensures
 
 pub level-turns-preserved-then-next-reached : goal.level-turns-preserved-then-next-reached
-level-turns-preserved-then-next-reached t c = ?
+level-turns-preserved-then-next-reached t c = resumes_goes _ _ _ _ _ _ c.in-Some.outer (found (c.turns.left, c.turns.rest)) (found (c.in_ok-left.field-0-0, c.in_ok-left.field-0-1)) _ c.in-Some.ensures.items c.next_level-next.ensures (out_of_reach _ _ _ c.then-next-reached.either) c.in_ok-left.ensures c.turns.invariant
 
 -- an operator that is none between operands
 pub level-returns-in_err-reached-2 : goal.level-returns-in_err-reached-2
 level-returns-in_err-reached-2 t c =
     let p = err_from_is_err_and c.from_residual-in_err-reached-2.result c.from_residual-in_err-reached-2.ensures.1 in
-    rw (p.1, p.2) (closes_halts _ _ _ _ _ _ _ _ _ ? c.next_level-next.ensures ? ? c.in_err-reached-2.ensures c.turns.invariant)
+    rw (p.1, p.2) (closes_halts _ _ _ _ _ _ _ _ _ c.in_default-infix_at.ensures.value c.next_level-next.ensures c.if-next-reached.false c.if-wanted-next.false c.in_err-reached-2.ensures c.turns.invariant)
 
 pub level-turns-smaller-in_default-infix_at : goal.level-turns-smaller-in_default-infix_at
 level-turns-smaller-in_default-infix_at t c = omega (arith, closed_less _ _ _ _ _ c.in_ok-reached-2.ensures)
 
 pub level-turns-preserved-in_default-infix_at : goal.level-turns-preserved-in_default-infix_at
-level-turns-preserved-in_default-infix_at t c = ?
+level-turns-preserved-in_default-infix_at t c = closes_goes _ _ _ _ _ _ _ _ _ _ c.in_default-infix_at.ensures.value c.next_level-next.ensures c.if-next-reached.false c.if-wanted-next.false c.in_ok-reached-2.ensures c.turns.invariant
 
 -- an operator between operands
 pub level-returns-in_err-reached-3 : goal.level-returns-in_err-reached-3
-level-returns-in_err-reached-3 t c = ?
+level-returns-in_err-reached-3 t c =
+    let p = err_from_is_err_and c.from_residual-in_err-reached-3.result c.from_residual-in_err-reached-3.ensures.1 in
+    rw (p.1, p.2) (waits_halts _ _ _ _ _ _ _ _ _ _ _ _ _ c.in-Some-infix_at.ensures.value c.next_level-next.ensures c.if-next-reached.false c.if-wanted-next.false c.in_err-reached-3.ensures.value c.turns.invariant)
 
 pub level-turns-smaller : goal.level-turns-smaller
-level-turns-smaller t c = ?
+level-turns-smaller t c =
+    let fewer = infix_less _ _ _ _ _ (sym c.in-Some-infix_at.ensures.value) in
+    waits_less _ _ _ _ _ _ c.in_ok-push.ensures.items fewer c.in_ok-reached-3.ensures.behind
 
 pub level-turns-preserved : goal.level-turns-preserved
-level-turns-preserved t c = ?
+level-turns-preserved t c = waits_goes _ _ _ _ _ _ _ _ _ (found (c.in_ok-reached-3.field-0-1, c.in_ok-reached-3.field-0-2)) _ _ _ c.in_ok-push.ensures.items refl refl c.in-Some-infix_at.ensures.value c.next_level-next.ensures c.if-next-reached.false c.if-wanted-next.false c.in_ok-reached-3.ensures.value c.turns.invariant
 
 pub more_branches-returns-in_err-behind : goal.more_branches-returns-in_err-behind
 more_branches-returns-in_err-behind t c =
@@ -89,7 +98,7 @@ operand-returns-in_err-part t c =
 pub operand-returns-in_default : goal.operand-returns-in_default
 operand-returns-in_default t c = record {
   value = primary_read _ _ _ _ _ (sym c.in_default.ensures.value) c.in_ok-part.ensures;
-  behind = left_within _ _ _ _ _ _ c.in_ok-part.ensures
+  behind = left_within _ an_expression primary _ _ _ c.in_ok-part.ensures
 }
 
 pub operand-returns-in_err-part-2 : goal.operand-returns-in_err-part-2
@@ -100,7 +109,7 @@ operand-returns-in_err-part-2 t c =
 pub operand-returns : goal.operand-returns
 operand-returns t c =
     let fewer = prefix_less _ _ _ _ _ _ (sym c.in-Some.ensures.value) in
-    let within = left_within _ _ (prefixed c.in-Some.place c.in-Some.op c.in-Some.own) _ _ _ c.in_ok-part-2.ensures in
+    let within = left_within _ an_expression (prefixed c.in-Some.place c.in-Some.op c.in-Some.own) _ _ _ c.in_ok-part-2.ensures in
     record {
       value = prefixed_read _ _ _ _ _ _ _ _ _ c.requires.least (sym c.in-Some.ensures.value) c.in_ok-part-2.ensures;
       behind = omega (arith, fewer, within)
