@@ -22,7 +22,7 @@ use Rattle.sat_trail.proofs.Tables.{place_within}
 use Rattle.sat_trail.proofs.Trails.{before_all}
 use Rattle.sat_trail.proofs.Levels.{among_earlier, before_before, bottom_inside}
 use Rattle.sat_propagation.specs.Watching.{Propagated, line_of, StandsFor, KeepsPair, IsReady, IsWatchedFor, KeepsLines, Adds, Serves}
-use Rattle.sat_propagation.proofs.Ready.{none_looked, ready_line, ready_decided, ready_wider, ready_added, ready_restarted, ready_served, added_watched, served_watched, lines_watched, ready_quiet}
+use Rattle.sat_propagation.proofs.Ready.{none_looked, ready_line, ready_decided, ready_wider, ready_added, ready_restarted, ready_served, added_watched, served_watched, same_watched, ready_quiet}
 use Rattle.sat_watch.specs.Watched.{Pair, Watched, HasPlace, HasWatch, no_pair, pair_at}
 use Rattle.sat_core.specs.Attached.{IsServed, KeepsAttached, WatchesTwo, LooksAgain, Attaches}
 
@@ -117,18 +117,6 @@ attached_next log trail p attached refuted below here k =
         let last : id ≡ attached + 1 = omega arith in
         subst (λ (i : ℕ). IsServed trail.entries p refuted i c) (sym last) (here c (subst (λ (i : ℕ). clause_at log i ≡ Some c) last named))
 
--- a search without clauses
-pub attached_none : (trail : Trailed) (p : Propagated) → IsReady [] trail p → KeepsAttached [] trail p 0 None
-attached_none trail p ready =
-    record { ready = ready; within = omega arith; served = (λ id c below named. absurd (nothing id c named)); conflict = tt }
-  where
-    nothing : (id : ℕ) (c : List Literal) → clause_at [] id ≡ Some c → ⊥
-    nothing id c e = by_zero (eqb id 0) e
-      where
-        by_zero : (b : Bool) → option_and_then (λ (l : LogLine). hinted l.kind l.lits) (cond b None (slice_get [] (id - 1))) ≡ Some c → ⊥
-        by_zero true e = cc
-        by_zero false e = cc
-
 -- What holds of each clause that an id names holds of each of the clauses.
 
 All-some : (P : List Literal → Type 0) (o : Option (List Literal)) → ((c : List Literal) → o ≡ Some c → P c) → AllByRecursion P (option_to_list o)
@@ -222,24 +210,15 @@ attached_decided log old new p attached refuted l variables same all k =
 
 pub attached_propagated : (log : List LogLine) (old new : Trailed) (p q : Propagated) (attached : ℕ) (refuted : Option ℕ) → AddsImplied old.entries new.entries → KeepsLines p q → IsReady log new q → KeepsAttached log old p attached refuted → KeepsAttached log new q attached refuted
 attached_propagated log old new p q attached refuted a lines ready k =
-    attached_implied log old new p q attached refuted a (λ id h. lines_watched p q id lines h) ready k
-
-pub same_watched : (old new : Propagated) → new.watched.pairs ≡ old.watched.pairs → new.ids ≡ old.ids → (id : ℕ) → IsWatchedFor old id → IsWatchedFor new id
-same_watched old new pairs ids id h =
-    let line : line_of new h.watcher ≡ line_of old h.watcher = ap (λ (xs : List ℕ). get_or xs h.watcher 0) ids in
-    record {
-      watcher = h.watcher;
-      used = (omega (arith, h.used.0, ap length pairs), (λ none. h.used.1 (sym line ∙ none)));
-      line = line ∙ h.line;
-    }
+    attached_implied log old new p q attached refuted a (λ id h. same_watched p q lines.pairs lines.ids id h) ready k
 
 pub attached_before : (log : List LogLine) (old new : Trailed) (p q : Propagated) (attached jump : ℕ) (refuted : Option ℕ) → new.entries ≡ before (jump + 1) old.entries → q.watched ≡ p.watched → q.ids ≡ p.ids → IsReady log new q → KeepsAttached log old p attached refuted → KeepsAttached log new q attached refuted
 attached_before log old new p q attached jump refuted same watched ids ready k =
-    attached_more log old new p q attached refuted (λ x m. subst (λ (es : List Entry). Among (literals (before 1 es)) x) (sym same) (first_before jump old.entries x m)) (same_watched p q (ap (λ (w : Watched). w.pairs) watched) ids) ready k
+    attached_more log old new p q attached refuted (λ x m. subst (λ (es : List Entry). Among (literals (before 1 es)) x) (sym same) (first_before jump old.entries x m)) (same_watched p q (ap (λ (w : Watched). length w.pairs) watched) ids) ready k
 
 pub attached_wider : (log : List LogLine) (old new : Trailed) (p q : Propagated) (attached : ℕ) (refuted : Option ℕ) → new.entries ≡ old.entries → places new.variables ≤ length q.watched.lists → q.watched.pairs ≡ p.watched.pairs → q.ids ≡ p.ids → q.looked ≡ p.looked → KeepsAttached log old p attached refuted → KeepsAttached log new q attached refuted
 attached_wider log old new p q attached refuted same lists pairs ids looked k =
-    attached_more log old new p q attached refuted (λ x m. subst (λ (es : List Entry). Among (literals (before 1 es)) x) (sym same) m) (same_watched p q pairs ids) (ready_wider log old new p q same lists pairs ids looked k.ready) k
+    attached_more log old new p q attached refuted (λ x m. subst (λ (es : List Entry). Among (literals (before 1 es)) x) (sym same) m) (same_watched p q (ap length pairs) ids) (ready_wider log old new p q same lists pairs ids looked k.ready) k
 
 -- there is a list for each of the literals
 pub all_places : (n : ℕ) (w : Watched) (c : List Literal) → IsUpTo n c → places n ≤ length w.lists → AllByRecursion (HasPlace w) c
@@ -357,4 +336,4 @@ module _ (log : List LogLine) (t : Trailed) (p0 p1 p2 p3 : Propagated) (lits : L
       let watched = again_watched (literals t.entries) p1 p2 first second again in
       let ids = again_ids (literals t.entries) p1 p2 first second again in
       let free : line_of p2 w ≡ 0 = ap (λ (xs : List ℕ). get_or xs w 0) ids ∙ adds.unused in
-      served_watched p2 p3 w id serves i free (same_watched p1 p2 (ap (λ (x : Watched). x.pairs) watched) ids i (added_watched p0 p1 two.0 two.1 w adds i h))
+      served_watched p2 p3 w id serves i free (same_watched p1 p2 (ap (λ (x : Watched). length x.pairs) watched) ids i (added_watched p0 p1 two.0 two.1 w adds i h))

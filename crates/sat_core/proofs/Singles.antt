@@ -14,23 +14,12 @@ none_falsified set [] h = tt
 none_falsified set (a ∷ c) h = absurd (omega (arith, h))
 
 module _ (set c : List Literal) (l : Literal) (short : length c < 2) (first : l ≡ get_or c 0 l) where
-  pub one_falsified : Among set (negated l) → IsFalsified set c
-  one_falsified m = by_list c short first
-    where
-      by_list : (d : List Literal) → length d < 2 → l ≡ get_or d 0 l → IsFalsified set d
-      by_list [] h e = tt
-      by_list (a ∷ []) h e = (subst (λ (k : Literal). Among set (negated k)) e m, tt)
-      by_list (a ∷ b ∷ d) h e = absurd (omega (arith, h))
-
   pub one_stands : length c ≢ 0 → Among c l
   one_stands some = by_list c some first
     where
       by_list : (d : List Literal) → length d ≢ 0 → l ≡ get_or d 0 l → Among d l
       by_list [] ne e = absurd (ne refl)
       by_list (a ∷ d) ne e = inl (sym e)
-
-  pub one_true : length c ≢ 0 → Among set l → IsTrueUnder set c
-  one_true some m = record { literal = l; stands = one_stands some; is_set = m }
 
   pub one_reason : (log : List LogLine) (id : ℕ) → length c ≢ 0 → clause_at log id ≡ Some c → IsReason log set id l
   one_reason log id some named =

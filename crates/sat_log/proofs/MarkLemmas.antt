@@ -92,13 +92,6 @@ placed_set room far (x ∷ trail) l h k =
 
 -- More room.
 
-keeps_wider : (room wider : ℕ) (far : List ℕ) → room ≤ wider → (v : ℕ) → HasPlace room far v → HasPlace wider far v
-keeps_wider room wider far more v h = by_room (cases_lt wider v)
-  where
-    by_room : (wider < v) ⊎ (v ≤ wider) → HasPlace wider far v
-    by_room (inr a) = near_has_place wider far v a
-    by_room (inl a) = omega (arith, far_place room far v (omega arith), far_place wider far v a)
-
 any_position : (p : ℕ → Bool) (xs : List ℕ) → list_any p xs ≡ true → position_or_len p xs < length xs
 any_position p [] e = absurd (false≢true e)
 any_position p (x ∷ xs) e = by_first (p x) e (any_position p xs)
@@ -112,15 +105,6 @@ any_position p (x ∷ xs) e = by_first (p x) e (any_position p xs)
 position_pushed : (v : ℕ) (far : List ℕ) (k : ℕ) → position_or_len (eqb v) far < length far → position_or_len (eqb v) (far ++ k ∷ []) ≡ position_or_len (eqb v) far
 position_pushed v far k h =
     position_or_len_push (eqb v) far k ∙ ap (λ t. cond t (length far + cond {A = ℕ} (eqb v k) 0 1) (position_or_len (eqb v) far)) (ne_eqb (position_or_len (eqb v) far) (length far) (λ e. absurd (omega arith)))
-
-keeps_pushed : (room : ℕ) (far : List ℕ) (k v : ℕ) → HasPlace room far v → HasPlace room (far ++ k ∷ []) v
-keeps_pushed room far k v h = by_room (cases_lt room v)
-  where
-    by_room : (room < v) ⊎ (v ≤ room) → HasPlace room (far ++ k ∷ []) v
-    by_room (inr a) = near_has_place room (far ++ k ∷ []) v a
-    by_room (inl a) =
-        let inside : position_or_len (eqb v) far < length far = omega (arith, far_place room far v a) in
-        omega (arith, far_place room (far ++ k ∷ []) v a, position_pushed v far k inside, length_push far k)
 
 pushed_place : (k : ℕ) (far : List ℕ) → position_or_len (eqb k) (far ++ k ∷ []) < length far + 1
 pushed_place k far = by_place (cases_eq (position_or_len (eqb k) far) (length far))

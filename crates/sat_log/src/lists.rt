@@ -91,10 +91,10 @@ impl SLits {
     }
 }
 
-/// Ids of lines of a log, such as the hints of a line. Up to eight lie in the value itself.
+/// Ids of lines of a log, such as the hints of a line: an original has none, so none lie in the value itself.
 #[derive(Debug, Drop)]
 pub struct Ids {
-    items: SmallVec<u64, 8>,
+    items: Vec<u64>,
 }
 
 impl Model for Ids {
@@ -111,7 +111,7 @@ impl Ids {
         ensures { result ≡ [] }
     {
         Ids {
-            items: SmallVec::new(alloc),
+            items: Vec::new(alloc),
         }
     }
 
@@ -119,9 +119,7 @@ impl Ids {
     pub fn from_vec(ids: Vec<u64>) -> Ids
         ensures { result ≡ ids.items }
     {
-        Ids {
-            items: SmallVec::from_vec(ids),
-        }
+        Ids { items: ids }
     }
 
     /// A copy of these ids.
@@ -133,7 +131,7 @@ impl Ids {
         ensures { IfOk result (λ l. l ≡ ids.now) }
     {
         Ok(Ids {
-            items: SmallVec::from_slice(alloc, ids)?,
+            items: Vec::from_slice(alloc, ids)?,
         })
     }
 

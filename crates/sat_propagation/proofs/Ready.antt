@@ -214,12 +214,12 @@ ready_restarted log t p h =
 
 -- What is watched.
 
-pub lines_watched : (old new : Propagated) (id : ℕ) → KeepsLines old new → IsWatchedFor old id → IsWatchedFor new id
-lines_watched old new id k h =
-    let line : line_of new h.watcher ≡ line_of old h.watcher = ap (λ (xs : List ℕ). get_or xs h.watcher 0) k.ids in
+pub same_watched : (old new : Propagated) → length new.watched.pairs ≡ length old.watched.pairs → new.ids ≡ old.ids → (id : ℕ) → IsWatchedFor old id → IsWatchedFor new id
+same_watched old new pairs ids id h =
+    let line : line_of new h.watcher ≡ line_of old h.watcher = ap (λ (xs : List ℕ). get_or xs h.watcher 0) ids in
     record {
       watcher = h.watcher;
-      used = (omega (arith, h.used.0, k.pairs), (λ none. h.used.1 (sym line ∙ none)));
+      used = (omega (arith, h.used.0, pairs), (λ none. h.used.1 (sym line ∙ none)));
       line = line ∙ h.line;
     }
 

@@ -11,6 +11,7 @@ use Rattle.sat_watch.specs.Watched.{Pair, no_pair, pair_at, HasWatch, changed}
 use Rattle.sat_log.proofs.LiteralLemmas.{negated-negated}
 use Rattle.sat_trail.specs.Trail.{literals, top, bottom}
 use Rattle.sat_trail.specs.Units.{AddsImplied}
+use Rattle.sat_trail.proofs.Levels.{among_below}
 use Rattle.sat_trail.specs.declared.trail.Entry.{Entry}
 use Rattle.sat_propagation.specs.Watching.{Propagated, line_of, IsUsed, StandsFor, AreStanding, KeepsPair, KeepsRule, IsPart, AreSettled, MovesAway, KeepsLines}
 use Rattle.sat_propagation.proofs.Pairs.{changed_has, changed_apart, changed_keeps, grown_keeps}
@@ -93,11 +94,7 @@ bottom_grown old new i a h =
     ap (bottom i) a.same ∙ ap (λ (n : ℕ). drop n (a.added ++ old)) size ∙ drop_past a.added old (length old - i)
 
 pub in_grown : (old new : List Entry) (k : Literal) → AddsImplied old new → Among (literals old) k → Among (literals new) k
-in_grown old new k a m = subst (λ (es : List Entry). Among (literals es) k) (sym a.same) (back a.added)
-  where
-    back : (added : List Entry) → Among (literals (added ++ old)) k
-    back [] = m
-    back (e ∷ added) = inr (back added)
+in_grown old new k a m = subst (λ (es : List Entry). Among (literals es) k) (sym a.same) (among_below a.added old k m)
 
 -- an entry that was made when there were i others is there
 pub entry_below : (entries : List Entry) (e : Entry) (i : ℕ) → bottom (i + 1) entries ≡ e ∷ bottom i entries → i + 1 ≤ length entries

@@ -17,10 +17,6 @@ use Rattle.sat_trail.proofs.Logs.{named_up_to}
 use Rattle.sat_trail.specs.declared.trail.Entry.{Entry}
 use Rattle.std.specs.Option.{option_and_then}
 
--- the literal of a reason exists
-pub reason_exists : (n : ℕ) (log : List LogLine) (set : List Literal) (id : ℕ) (l : Literal) → AreUpTo n log → IsReason log set id l → l.var ≤ n
-reason_exists n log set id l up r = All-among (λ k. k.var ≤ n) r.clause l (named_up_to n log id r.clause up r.named) r.implies.stands
-
 pub entries_apart : (entries : List Entry) (l : Literal) → IsUnset (literals entries) l → AllByRecursion (λ f. f.literal.var ≢ l.var) entries
 entries_apart [] l u = tt
 entries_apart (e ∷ entries) l u =

@@ -132,11 +132,6 @@ place_of heads records w l same h =
     let place : packed l < length (lists_from 0 records heads) = subst (λ v. HasPlace v l) (sym same) h in
     omega (arith, length_lists 0 records heads)
 
-pub clause_of : (heads : List (Option ℕ)) (records : List Record) (w : Watched) (c : ℕ) → watched_in heads records ≡ w → c < length w.pairs → c < length records
-clause_of heads records w c same h =
-    let within : c < length (map pair_of records) = subst (λ (v : Watched). c < length v.pairs) (sym same) h in
-    omega (arith, length-map records pair_of)
-
 -- the list of a literal
 pub watchers_of : (heads : List (Option ℕ)) (records : List Record) (w : Watched) (l : Literal) (k : KeepsWatches heads records) (same : watched_in heads records ≡ w) (below : packed l < length heads) → watchers w l ≡ (k.threads (packed l) below).0
 watchers_of heads records w l k same below =

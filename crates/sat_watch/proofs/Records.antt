@@ -44,12 +44,6 @@ relink_pair p next r =
     (λ t. pair_of (cond t (record { first = record { literal = r.first.literal; next = next }; second = r.second }) (record { first = r.first; second = record { literal = r.second.literal; next = next } })) ≡ pair_of r)
     (packed r.first.literal) p (λ _. refl) (λ _. refl)
 
-pub relink_first : (p : ℕ) (next : Option ℕ) (r : Record) → (relinked p next r).first.literal ≡ r.first.literal
-relink_first p next r = ap (λ x. x.first) (relink_pair p next r)
-
-pub relink_second : (p : ℕ) (next : Option ℕ) (r : Record) → (relinked p next r).second.literal ≡ r.second.literal
-relink_second p next r = ap (λ x. x.second) (relink_pair p next r)
-
 -- Another watch.
 
 module _ (p : ℕ) (w : Watch) (r : Record) where
@@ -93,13 +87,6 @@ module _ (p : ℕ) (w : Watch) (r : Record) where
       (packed r.first.literal) p
       (λ e k. ⊎_elim (λ s. nw (sym s)) (λ s. apart (e ∙ sym s)) k)
       (λ ne k. ⊎_elim (λ s. ne s) (λ s. nw (sym s)) k) wq
-
-  pub exchange_apart : IsApart r → ¬ WatchesAt (packed w.literal) r → IsApart (exchanged p w r)
-  exchange_apart apart none =
-      by_same (λ t. IsApart (cond t (record { first = w; second = r.second }) (record { first = r.first; second = w })))
-      (packed r.first.literal) p
-      (λ _ k. none (inr (sym k)))
-      (λ _ k. none (inl k))
 
 -- What a record must be, it still is.
 

@@ -51,14 +51,6 @@ impl Watches {
         Ok(())
     }
 
-    /// How many clauses there are. Exactly those that watch a literal are in its list, each once.
-    pub fn clauses(&self) -> usize
-        ensures count { result ≡ length self.now.pairs }
-        ensures exact { IsWatching self.now }
-    {
-        self.records.len()
-    }
-
     /// Adds a clause that watches these two literals, as the first one of their lists, and answers its number: they count
     /// from 0.
     ///
