@@ -7,8 +7,7 @@ ghost use Rattle.smv_parse.specs.TextReading.{expression_of};
 
 use crate::faults::{fault_of, halt_fault};
 use smv_grammar::{DEEPEST, LOOSEST, ParseFault};
-use smv_reader::Reader;
-use smv_reader::Halt;
+use smv_reader::{Halt, Reader};
 use smv_token::{ScannedText, Token, scan};
 use smv_tree::Expr;
 use std::alloc::{AllocError, Global};

@@ -7,8 +7,7 @@ ghost use Rattle.smv_parse.specs.TextReading.{formula_of};
 
 use crate::faults::{fault_of, halt_fault};
 use smv_grammar::{DEEPEST, OUTERMOST, ParseFault};
-use smv_reader::{Reader, group_flags};
-use smv_reader::Halt;
+use smv_reader::{Halt, Reader, group_flags};
 use smv_token::{ScannedText, Token, scan};
 use smv_tree::Formula;
 use std::alloc::{AllocError, Global};

@@ -7,8 +7,7 @@ ghost use Rattle.smv_parse.specs.TextReading.{modules_of};
 
 use crate::faults::{fault_of, halt_fault};
 use smv_grammar::{DEEPEST, ParseFault};
-use smv_reader::{Reader, group_flags};
-use smv_reader::Halt;
+use smv_reader::{Halt, Reader, group_flags};
 use smv_token::{ScannedText, Token, scan};
 use smv_tree::Program;
 use std::alloc::{AllocError, Global};

@@ -10,10 +10,10 @@ ghost use Rattle.smv_rules.specs.Texts.{SpellsFormulaText};
 ghost use Rattle.smv_print.specs.Written.{Prints, WroteAlikeFormula, claim_left_inks, claim_right_inks};
 
 use crate::ink::{put_blank, put_mark, put_operator};
-use smv_printing::Lead;
 use crate::print::put_part;
 use outside::{Failed, Sink};
 use smv_grammar::{ATOMIC, joining_by, rightward};
+use smv_printing::Lead;
 use smv_token::Mark;
 use smv_tree::{FormOp, Formula};
 

@@ -5,8 +5,8 @@ ghost use Rattle.smv_tree.specs.Trees.{expr_tree};
 ghost use Rattle.smv_grammar.specs.Forms.{left_level};
 ghost use Rattle.smv_printing.specs.Printing.{is_negation, level, level_of_one, mark_of_two, misread, right_level};
 
-use smv_printing::Lead;
 use smv_grammar::{operator_level, to_right};
+use smv_printing::Lead;
 use smv_token::Mark;
 use smv_tree::{Expr, Op1, Op2};
 

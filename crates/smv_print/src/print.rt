@@ -13,9 +13,9 @@ ghost use Rattle.smv_print.specs.Written.{Prints, WroteAlike, left_inks, right_i
 use crate::ink::{
     put_blank, put_integer, put_mark, put_number, put_operator, put_path, put_width, put_word,
 };
-use smv_printing::Lead;
 use crate::operators::{is_negation, left_level, level, mark_of_two, misread, right_level};
 use outside::{Failed, Sink};
+use smv_printing::Lead;
 use smv_token::Mark;
 use smv_tree::{Branch, Expr, Op1, Op2, Place};
 
