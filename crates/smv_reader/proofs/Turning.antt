@@ -85,6 +85,23 @@ no_range : (b : Bool) (x : Option Place) → b ≡ true → (if b then None else
 no_range true x e = refl
 no_range false x e = absurd (cc)
 
+pub prefix_less : (l k : ℕ) (o : Op1) (p : Place) (ts us : List Token) → prefix_at l ts ≡ Some (k, o, p, us) → length us < length ts
+unfolding prefix_at
+prefix_less l k o p [] us e = absurd (cc)
+prefix_less l k o p (t ∷ ts) us e = omega (arith, ap length (by_lexeme t.lexeme e)) where
+  by_minus : (b c : Bool) → (if b then None else (if c then None else prefix_is 4 op1.Neg t.place ts)) ≡ prefix_is k o p us → ts ≡ us
+  by_minus true c f = absurd (cc)
+  by_minus false true f = absurd (cc)
+  by_minus false false f = (same_prefix 4 k op1.Neg o t.place p ts us f).3
+
+  by_lexeme : (x : Lexeme) → prefix_by l (mark_of x) t.place ts ≡ Some (k, o, p, us) → ts ≡ us
+  by_lexeme (lexeme.Mark marks.Bang) f = (same_prefix 2 k op1.Not o t.place p ts us f).3
+  by_lexeme (lexeme.Mark marks.Minus) f = by_minus (nat_lt l 4) (begins_range ts) f
+  by_lexeme (lexeme.Mark m) f = absurd (cc)
+  by_lexeme (lexeme.Name x) f = absurd (cc)
+  by_lexeme (lexeme.Number x) f = absurd (cc)
+  by_lexeme (lexeme.Word x) f = absurd (cc)
+
 pub operand_prefixed : (n l k : ℕ) (o : Op1) (p : Place) (ts us : List Token) → 2 ≤ l → prefix_at l ts ≡ Some (k, o, p, us) → run n (level l) ts ≡ (run n (prefixed p o k) us >>= up n k l)
 unfolding prefix_at
 operand_prefixed n l k o p [] us h e = absurd (cc)
@@ -209,6 +226,17 @@ all_high m = refl
 
 pub infix_least : (m : Mark) (l : ℕ) (o : Op2) → infix_of m ≡ Some (l, o) → 3 ≤ l
 infix_least m l o e = ltb-true 2 l (ap high (sym e) ∙ all_high m)
+
+abbrev low : Option (ℕ × Op2) → Bool
+low None = true
+low (Some o) = nat_lt o.0 16
+
+all_low : (m : Mark) → low (infix_of m) ≡ true
+all_low marks.Concat = refl
+all_low m = refl
+
+pub infix_most : (m : Mark) (l : ℕ) (o : Op2) → infix_of m ≡ Some (l, o) → l ≤ 15
+infix_most m l o e = let h : l < 16 = ltb-true l 16 (ap low (sym e) ∙ all_low m) in omega (arith, h)
 
 -- what is known of an operator between operands
 record Joins (j : ℕ) (o : Op2) (p : Place) (us : List Token) (l : Lexeme) (q : Place) (vs : List Token) : Type 0 where

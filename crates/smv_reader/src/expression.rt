@@ -1,4 +1,4 @@
-ghost use Rattle.std.specs.Prelude.{◌≡◌, ◌<◌, ◌≤◌, ◌∷◌, []};
+ghost use Rattle.std.specs.Prelude.{◌≡◌, ◌<◌, ◌≤◌, ◌∷◌, [], IfOk, length};
 ghost use Rattle.smv_tree.specs.Trees.{expr_tree, next, one};
 ghost use Rattle.smv_reader.specs.Halts.{Halts, Reads};
 ghost use Rattle.smv_rules.specs.Expressions.{applied, branch, choosing, counted, enclosed, expr, implying, level, listed, listed_branches, more_branches, more_operands, nested, no_branches, opened, operands, prefixed, primary, primary_from, side, widened};
@@ -11,7 +11,7 @@ ghost use Rattle.smv_reader.specs.Turns.{seen_rest, turn};
 ghost use Rattle.smv_reader.specs.Views.{branches_of, expression_of, found, opener_of, opening_of, operands_of};
 
 use crate::opening::{Opener, Opening, begins_operand, opening_by};
-use crate::operators::{infix_at, next_level, prefix_at};
+use crate::operators::{Waiting, infix_at, next_level, prefix_at};
 use crate::parsed::{Parsed, ParsedCase, ParsedList};
 use crate::reader::Reader;
 use smv_grammar::{LOOSEST, capped};
@@ -383,7 +383,8 @@ impl Reader {
     fn operand(self, loosest: u32, tokens: &[Token]) -> Result<(u32, Parsed, &[Token]), Halt>
         requires least { 2 ≤ loosest }
         requires most { loosest ≤ 15 }
-        ensures { Leads (λ x. up self.room x.0 loosest (so_far x)) result (run self.room (level loosest) tokens.now) }
+        ensures value { Leads (λ x. up self.room x.0 loosest (so_far x)) result (run self.room (level loosest) tokens.now) }
+        ensures behind { IfOk result (λ x. length x.2.now ≤ length tokens.now) }
     {
         let Some((own, op, place, behind)) = prefix_at(loosest, tokens) else {
             let (part, rest) = self.primary(tokens)?;
@@ -482,26 +483,42 @@ impl Reader {
     }
 
     /// An expression of a level or a tighter one: an operand, and then its operators from tight to
-    /// loose. Only nestings and right operands recur, so that the stack holds 1,000 of the former.
+    /// loose. Operands wait on the heap for the right operand of their operator, so that only
+    /// nestings recur, and the stack holds 1,000 of these.
     #[cycle(expression)]
     pub fn level(self, loosest: u32, tokens: &[Token]) -> Result<(Parsed, &[Token]), Halt>
         requires least { 2 ≤ loosest }
         requires most { loosest ≤ 15 }
         ensures { Reads found result (run self.room (level loosest) tokens.now) }
     {
+        let mut waiting: Vec<Waiting> = Vec::new(self.alloc);
+        let mut wanted = loosest;
         let (mut reached, mut left, mut rest) = self.operand(loosest, tokens)?;
         'turns: loop {
             let next = next_level(rest);
-            if next <= reached || loosest < next {
-                return Ok((left, rest));
+            if next <= reached || wanted < next {
+                let Some(outer) = waiting.pop() else {
+                    return Ok((left, rest));
+                };
+                (reached, wanted) = (outer.tighter, outer.loosest);
+                (left, rest) = self.joined(outer.left, outer.op, outer.place, left, rest)?;
+                continue 'turns;
             }
             let Some((own, op, place, behind)) = infix_at(rest) else {
                 (reached, left, rest) = self.closed(left, rest)?;
                 continue 'turns;
             };
-            let (right, behind) = self.level(own - 1, behind)?;
-            (left, rest) = self.joined(left, op, place, right, behind)?;
-            reached = own - 1;
+            let tighter = own - 1;
+            let loosest = wanted;
+            waiting.push(Waiting {
+                left,
+                op,
+                place,
+                tighter,
+                loosest,
+            })?;
+            wanted = tighter;
+            (reached, left, rest) = self.operand(tighter, behind)?;
         }
     }
 }

@@ -14,6 +14,17 @@ use crate::halt::Halt;
 use smv_token::{Lexeme, Mark, Token};
 use smv_tree::{Expr, Op1, Op2, Place};
 
+/// An operand with the operator behind it, while the right operand is read: the level of the right
+/// operand, and the level that is wanted of the expression of both.
+#[derive(Debug, Drop)]
+pub struct Waiting {
+    pub left: Parsed,
+    pub op: Op2,
+    pub place: Place,
+    pub tighter: u32,
+    pub loosest: u32,
+}
+
 /// The level of an operator behind an expression, or 0.
 fn level_by(mark: Mark) -> u32
     ensures { result ≡ level_by mark }
@@ -30,7 +41,7 @@ fn level_by(mark: Mark) -> u32
 }
 
 /// The level of the operator at the front, or 0.
-#[tactic(auto, using(crate::proofs::Levels::turn_ends), unfolding(crate::specs::Climbing::next_level))]
+#[tactic(auto, unfolding(crate::specs::Climbing::next_level))]
 pub fn next_level(tokens: &[Token]) -> u32
     ensures { result ≡ next_level tokens.now }
 {
@@ -44,10 +55,11 @@ pub fn next_level(tokens: &[Token]) -> u32
 }
 
 /// The operator between operands at the front: its level, itself, its place, and the tokens behind it.
-#[tactic(auto, using(crate::proofs::Turning::infix_least), unfolding(crate::specs::Climbing::infix_at))]
+#[tactic(auto, using(crate::proofs::Turning::infix_least, crate::proofs::Turning::infix_most), unfolding(crate::specs::Climbing::infix_at))]
 pub fn infix_at(tokens: &[Token]) -> Option<(u32, Op2, Place, &[Token])>
     ensures value { infix_seen result ≡ infix_at tokens.now }
     ensures least { IfSome result (λ x. 3 ≤ x.0) }
+    ensures most { IfSome result (λ x. x.0 ≤ 15) }
 {
     let [first, rest @ ..] = tokens else {
         return None;

@@ -3,10 +3,11 @@ use Rattle.smv_rules.specs.Expressions.{level, more_branches, more_operands}
 use Rattle.smv_rules.specs.Running.{run}
 use Rattle.smv_reader.specs.Climbing.{up}
 use Rattle.smv_reader.specs.Views.{branches_of, expression_of, operands_of}
+use Rattle.smv_reader.specs.Waiting.{all_resumed}
 use Rattle.smv_reader.proofs.reader.Reader.+expression.Given as goal
 
 abbrev pub decreases-level : goal.decreases-level
-decreases-level l = 100 * l.self.room + 40 + l.loosest
+decreases-level l = 100 * l.self.room + 40
 
 abbrev pub decreases-operand : goal.decreases-operand
 decreases-operand l = 100 * l.self.room + 39
@@ -96,7 +97,7 @@ abbrev pub decreases-more_branches-branches : goal.decreases-more_branches-branc
 decreases-more_branches-branches l = length l.rest
 
 abbrev pub invariant-level-turns : goal.invariant-level-turns
-invariant-level-turns l = up l.self.room l.reached l.loosest (expression_of l.left, l.rest) ≡ run l.self.room (level l.loosest) l.tokens
+invariant-level-turns l = all_resumed l.self.room l.waiting.items (up l.self.room l.reached l.wanted (expression_of l.left, l.rest)) ≡ run l.self.room (level l.loosest) l.tokens
 
 abbrev pub decreases-level-turns : goal.decreases-level-turns
-decreases-level-turns l = length l.rest
+decreases-level-turns l = 2 * length l.rest + length l.waiting.items
