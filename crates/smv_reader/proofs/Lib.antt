@@ -2,7 +2,8 @@ pub mod Loops
 pub mod Climbing
 pub mod Turning
 pub mod Levels
-pub mod FormulaLevels
 pub mod GroupFlags
+pub mod Steps
+pub mod FormulaLevels
 pub mod Flags
 pub mod Options

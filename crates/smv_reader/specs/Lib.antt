@@ -6,3 +6,5 @@ pub mod Climbing
 pub mod Waiting
 pub mod Headings
 pub mod FormulaViews
+pub mod Steps
+pub mod FormulaClimbing

@@ -10,12 +10,12 @@ ghost use Rattle.smv_reader.specs.Climbing.{Leads, closed_at, so_far, up};
 ghost use Rattle.smv_reader.specs.Turns.{seen_rest, turn};
 ghost use Rattle.smv_reader.specs.Views.{branches_of, expression_of, found, opener_of, opening_of, operands_of};
 
+use crate::halt::Halt;
 use crate::opening::{Opener, Opening, begins_operand, opening_by};
 use crate::operators::{Waiting, infix_at, next_level, prefix_at};
 use crate::parsed::{Parsed, ParsedCase, ParsedList};
 use crate::reader::Reader;
 use smv_grammar::{LOOSEST, capped};
-use crate::halt::Halt;
 use smv_token::{Lexeme, Mark, Token};
 use smv_tree::{Expr, Op1, Op2, Place};
 

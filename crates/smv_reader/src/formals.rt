@@ -5,8 +5,8 @@ ghost use Rattle.smv_rules.specs.Programs.{formals, more_formals, some_names};
 ghost use Rattle.smv_rules.specs.Running.{run};
 ghost use Rattle.smv_reader.specs.Turns.{seen_rest, turn};
 
-use crate::reader::Reader;
 use crate::halt::Halt;
+use crate::reader::Reader;
 use smv_token::{Mark, Token};
 use smv_tree::{Param, Params};
 

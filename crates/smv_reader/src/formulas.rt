@@ -1,21 +1,20 @@
-ghost use Rattle.std.specs.Prelude.{◌≡◌, ◌-◌, ◌≤◌, max, IfSome};
+ghost use Rattle.std.specs.Prelude.{◌≡◌, ◌≤◌, max, IfSome};
 ghost use Rattle.smv_tree.specs.Models.{both, formula_claim};
-ghost use Rattle.smv_grammar.specs.Formulas.{joining, outermost};
 ghost use Rattle.smv_reader.specs.Halts.{Halts, Reads};
 ghost use Rattle.smv_reader.specs.Flags.{Flagged};
-ghost use Rattle.smv_rules.specs.Formulas.{an_atom, connected, deeper, enclosed, formula_level, implied, joined, opened, operand, prefixed, side};
-ghost use Rattle.smv_rules.specs.Keys.{formula_operand, of_level};
+ghost use Rattle.smv_rules.specs.Formulas.{an_atom, connected, deeper, enclosed, formula_level, opened, operand, prefixed, side};
+ghost use Rattle.smv_rules.specs.Keys.{formula_operand};
 ghost use Rattle.smv_rules.specs.Rules.{must, too_deep};
 ghost use Rattle.smv_rules.specs.Running.{run};
 ghost use Rattle.smv_rules.specs.Sorts.{a_formula};
+ghost use Rattle.smv_reader.specs.FormulaClimbing.{connective_at, connective_seen};
 ghost use Rattle.smv_reader.specs.FormulaViews.{applied, formula_of, found_formula};
-ghost use Rattle.smv_reader.specs.Turns.{seen_rest, turn};
 
 use crate::groups::{Prefix, Start, start_of};
+use crate::halt::Halt;
 use crate::opening::begins_operand;
 use crate::reader::Reader;
 use smv_grammar::{ATOMIC, DEEPEST, OUTERMOST, joining_by};
-use crate::halt::Halt;
 use smv_token::{Lexeme, Mark, Token};
 use smv_tree::{FormOp, Formula};
 
@@ -40,16 +39,37 @@ impl Prefix {
     }
 }
 
-/// The operator of a level that a token is.
-fn connective(level: u32, token: &Token) -> Option<FormOp>
-    ensures { result ≡ of_level level (joining token.now) }
+/// An operand with the operator behind it, while the right operand is read: the level of the right
+/// operand, and the level that is wanted of the formula of both.
+#[derive(Debug, Drop)]
+struct WaitingFormula {
+    left: ParsedFormula,
+    op: FormOp,
+    tighter: u32,
+    loosest: u32,
+}
+
+/// The operator at the front that is looser than the one level and no looser than the other: its level,
+/// itself, and the tokens behind it.
+#[tactic(auto, unfolding(crate::specs::FormulaClimbing::connective_at))]
+fn connective_at(reached: u32, wanted: u32, tokens: &[Token]) -> Option<(u32, FormOp, &[Token])>
+    ensures value { connective_seen result ≡ connective_at reached wanted tokens.now }
+    ensures least { IfSome result (λ x. 2 ≤ x.0) }
 {
-    let Lexeme::Mark(mark) = token.lexeme else {
+    let [first, rest @ ..] = tokens else {
         return None;
     };
-    match joining_by(mark) {
-        Some((own, op)) if own == level => Some(op),
-        _ => None,
+    let Lexeme::Mark(mark) = first.lexeme else {
+        return None;
+    };
+    let (own, op) = joining_by(mark)?;
+    if wanted < own {
+        return None;
+    }
+    if reached < own {
+        Some((own, op, rest))
+    } else {
+        None
     }
 }
 
@@ -126,7 +146,6 @@ impl Reader {
         loosest: u32,
         tokens: &'a [Token],
     ) -> Result<(ParsedFormula, &'a [Token]), Halt>
-        requires most { loosest ≤ outermost }
         requires flagged { Flagged flags.now tokens.now }
         ensures { Reads found_formula result (run self.room (opened loosest) tokens.now) }
     {
@@ -218,77 +237,6 @@ impl Reader {
         }
     }
 
-    /// The right operand of an operator of a level, behind it, with the formula to the left.
-    #[cycle(formula)]
-    #[tactic(auto, unfolding(smv_rules::specs::Running::run))]
-    fn connected<'a>(
-        self,
-        flags: &[bool],
-        level: u32,
-        left: ParsedFormula,
-        op: FormOp,
-        tokens: &'a [Token],
-    ) -> Result<(ParsedFormula, &'a [Token]), Halt>
-        requires least { 2 ≤ level }
-        requires most { level ≤ outermost }
-        requires flagged { Flagged flags.now tokens.now }
-        ensures { Reads found_formula result (run self.room (connected (formula_level (level - 1)) (formula_of left) op) tokens.now) }
-    {
-        let (right, rest) = self.formula(flags, level - 1, tokens)?;
-        self.both(left, op, right, rest)
-    }
-
-    /// One more operator of a level and its right operand, if such an operator stands there.
-    #[cycle(formula)]
-    #[tactic(auto, using(crate::proofs::GroupFlags::flagged_behind), unfolding(smv_rules::specs::Running::run, smv_rules::specs::Keys::sees, crate::specs::Turns::turn))]
-    fn next_connected<'a>(
-        self,
-        flags: &[bool],
-        level: u32,
-        left: ParsedFormula,
-        tokens: &'a [Token],
-    ) -> Result<(ParsedFormula, Option<&'a [Token]>), Halt>
-        requires least { 2 ≤ level }
-        requires most { level ≤ outermost }
-        requires flagged { Flagged flags.now tokens.now }
-        ensures { Reads (λ x. (formula_of x.0, seen_rest x.1)) result (turn self.room (joined level (formula_level (level - 1)) (formula_of left)) tokens.now) }
-    {
-        let [first, rest @ ..] = tokens else {
-            return Ok((left, None));
-        };
-        let Some(op) = connective(level, first) else {
-            return Ok((left, None));
-        };
-        let (left, rest) = self.connected(flags, level, left, op, rest)?;
-        Ok((left, Some(rest)))
-    }
-
-    /// The operators of a level behind a formula of the next tighter one.
-    #[cycle(formula)]
-    #[tactic(auto, using(crate::proofs::Loops::loop_stops, crate::proofs::Loops::loop_goes, crate::proofs::Loops::loop_less))]
-    fn more_connected<'a>(
-        self,
-        flags: &[bool],
-        level: u32,
-        left: ParsedFormula,
-        tokens: &'a [Token],
-    ) -> Result<(ParsedFormula, &'a [Token]), Halt>
-        requires least { 2 ≤ level }
-        requires most { level ≤ outermost }
-        requires flagged { Flagged flags.now tokens.now }
-        ensures { Reads found_formula result (run self.room (joined level (formula_level (level - 1)) (formula_of left)) tokens.now) }
-    {
-        let (mut left, mut rest) = (left, tokens);
-        'operators: loop {
-            let (more, behind) = self.next_connected(flags, level, left, rest)?;
-            left = more;
-            let Some(behind) = behind else {
-                return Ok((left, rest));
-            };
-            rest = behind;
-        }
-    }
-
     /// The right side of an implication, behind the arrow.
     #[cycle(formula)]
     #[tactic(auto, unfolding(smv_rules::specs::Running::run))]
@@ -306,48 +254,46 @@ impl Reader {
         self.both(left, op, right, rest)
     }
 
-    /// A formula with an arrow and its right side behind it, if an arrow stands there.
-    #[cycle(formula)]
-    #[tactic(auto, using(crate::proofs::GroupFlags::flagged_behind), unfolding(smv_rules::specs::Running::run, smv_rules::specs::Keys::sees))]
-    fn implied_formula<'a>(
-        self,
-        flags: &[bool],
-        left: ParsedFormula,
-        tokens: &'a [Token],
-    ) -> Result<(ParsedFormula, &'a [Token]), Halt>
-        requires flagged { Flagged flags.now tokens.now }
-        ensures { Reads found_formula result (run self.room (implied (formula_of left)) tokens.now) }
-    {
-        let [first, rest @ ..] = tokens else {
-            return Ok((left, tokens));
-        };
-        let Some(op) = connective(OUTERMOST, first) else {
-            return Ok((left, tokens));
-        };
-        self.implying_formula(flags, left, op, rest)
-    }
-
     /// A formula of a level or of a tighter one. The flags tell of each rest of the tokens whether it
-    /// begins a group that holds a word that formulas alone have.
+    /// begins a group that holds a word that formulas alone have. Operands wait on the heap for the
+    /// right operand of their operator, so that only nestings recur.
     #[cycle(formula)]
-    #[tactic(auto, using(crate::proofs::FormulaLevels::level_operand, crate::proofs::FormulaLevels::level_implied, crate::proofs::FormulaLevels::level_joined))]
     pub fn formula<'a>(
         self,
         flags: &[bool],
         loosest: u32,
         tokens: &'a [Token],
     ) -> Result<(ParsedFormula, &'a [Token]), Halt>
-        requires most { loosest ≤ outermost }
         requires flagged { Flagged flags.now tokens.now }
         ensures { Reads found_formula result (run self.room (formula_level loosest) tokens.now) }
     {
-        if loosest <= 1 {
-            return self.formula_operand(flags, tokens);
+        let mut waiting: Vec<WaitingFormula> = Vec::new(self.alloc);
+        let (mut reached, mut wanted) = (1, loosest);
+        let (mut left, mut rest) = self.formula_operand(flags, tokens)?;
+        'turns: loop {
+            let Some((own, op, behind)) = connective_at(reached, wanted, rest) else {
+                let Some(outer) = waiting.pop() else {
+                    return Ok((left, rest));
+                };
+                (reached, wanted) = (outer.tighter, outer.loosest);
+                (left, rest) = self.both(outer.left, outer.op, left, rest)?;
+                continue 'turns;
+            };
+            if own == OUTERMOST {
+                (left, rest) = self.implying_formula(flags, left, op, behind)?;
+                reached = own;
+                continue 'turns;
+            }
+            let tighter = own - 1;
+            let loosest = wanted;
+            waiting.push(WaitingFormula {
+                left,
+                op,
+                tighter,
+                loosest,
+            })?;
+            (reached, wanted) = (1, tighter);
+            (left, rest) = self.formula_operand(flags, behind)?;
         }
-        let (left, rest) = self.formula(flags, loosest - 1, tokens)?;
-        if loosest == OUTERMOST {
-            return self.implied_formula(flags, left, rest);
-        }
-        self.more_connected(flags, loosest, left, rest)
     }
 }

@@ -7,9 +7,9 @@ ghost use Rattle.smv_rules.specs.Running.{run};
 ghost use Rattle.smv_reader.specs.Headings.{heading_of};
 ghost use Rattle.smv_reader.specs.Turns.{seen_rest, turn};
 
+use crate::halt::Halt;
 use crate::reader::Reader;
 use crate::sections::{Heading, heading_by};
-use crate::halt::Halt;
 use smv_token::{Lexeme, Mark, Token};
 use smv_tree::{Items, Module, Modules, Place, Program};
 

@@ -7,10 +7,10 @@ ghost use Rattle.smv_token.specs.declared.mark.Mark.TheVariants.{Minus};
 ghost use Rattle.smv_reader.specs.Climbing.{infix_at, infix_seen, level_by, next_level, prefix_at, prefix_by, prefix_seen};
 ghost use Rattle.smv_reader.specs.Views.{found};
 
+use crate::halt::Halt;
 use crate::parsed::Parsed;
 use crate::reader::Reader;
 use smv_grammar::{infix_of, range_follows};
-use crate::halt::Halt;
 use smv_token::{Lexeme, Mark, Token};
 use smv_tree::{Expr, Op1, Op2, Place};
 

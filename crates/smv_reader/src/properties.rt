@@ -5,9 +5,9 @@ ghost use Rattle.smv_reader.specs.Flags.{Flagged};
 ghost use Rattle.smv_rules.specs.Programs.{a_property, specified, specified_by_name};
 ghost use Rattle.smv_rules.specs.Running.{run};
 
+use crate::halt::Halt;
 use crate::reader::Reader;
 use smv_grammar::OUTERMOST;
-use crate::halt::Halt;
 use smv_token::{Mark, Token};
 use smv_tree::{Item, Items, Name, Place};
 

@@ -3,8 +3,8 @@ ghost use Rattle.smv_reader.specs.Halts.{Reads};
 ghost use Rattle.smv_rules.specs.Expressions.{an_int, mark, name, number, optional};
 ghost use Rattle.smv_rules.specs.Running.{run};
 
-use smv_grammar::integer;
 use crate::halt::Halt;
+use smv_grammar::integer;
 use smv_token::{Lexeme, Mark, Token};
 use smv_tree::{Name, Place};
 use std::alloc::Global;

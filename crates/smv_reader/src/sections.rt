@@ -7,9 +7,9 @@ ghost use Rattle.smv_rules.specs.Running.{run};
 ghost use Rattle.smv_reader.specs.Headings.{heading_of, heading_seen};
 ghost use Rattle.smv_reader.specs.Turns.{seen_rest, turn};
 
+use crate::halt::Halt;
 use crate::reader::Reader;
 use smv_grammar::LOOSEST;
-use crate::halt::Halt;
 use smv_token::{Lexeme, Mark, Token};
 use smv_tree::{Item, Items, Kind, Moment, Name, Place, Section};
 

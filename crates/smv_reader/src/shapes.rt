@@ -4,8 +4,8 @@ ghost use Rattle.smv_reader.specs.Halts.{Reads};
 ghost use Rattle.smv_rules.specs.Programs.{a_declared, actuals, instantiated, some_actuals};
 ghost use Rattle.smv_rules.specs.Running.{run};
 
-use crate::reader::Reader;
 use crate::halt::Halt;
+use crate::reader::Reader;
 use smv_token::{Lexeme, Mark, Token};
 use smv_tree::{Name, Place, TypeSyntax};
 

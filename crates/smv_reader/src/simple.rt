@@ -7,10 +7,10 @@ ghost use Rattle.smv_rules.specs.Running.{run};
 ghost use Rattle.smv_reader.specs.Turns.{seen_rest, turn};
 ghost use Rattle.smv_reader.specs.Views.{expression_of, found};
 
+use crate::halt::Halt;
 use crate::parsed::Parsed;
 use crate::reader::Reader;
 use smv_grammar::{DEEPEST, capped, integer};
-use crate::halt::Halt;
 use smv_token::{Mark, Token};
 use smv_tree::{Expr, Name, Path, Place};
 use std::alloc::AllocError;

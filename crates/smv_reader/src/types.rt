@@ -6,9 +6,9 @@ ghost use Rattle.smv_rules.specs.Programs.{width, a_type, an_elem, enumeration, 
 ghost use Rattle.smv_rules.specs.Running.{run};
 ghost use Rattle.smv_reader.specs.Turns.{seen_rest, turn};
 
+use crate::halt::Halt;
 use crate::reader::Reader;
 use smv_grammar::integer;
-use crate::halt::Halt;
 use smv_token::{Lexeme, Mark, Token};
 use smv_tree::{Place, Ty, TypeSyntax, Value, Values};
 

@@ -98,7 +98,7 @@ operand-returns-in_err-part t c =
 pub operand-returns-in_default : goal.operand-returns-in_default
 operand-returns-in_default t c = record {
   value = primary_read _ _ _ _ _ (sym c.in_default.ensures.value) c.in_ok-part.ensures;
-  behind = left_within _ an_expression primary _ _ _ c.in_ok-part.ensures
+  behind = left_within _ an_expression primary _ _ _ c.in_ok-part.ensures;
 }
 
 pub operand-returns-in_err-part-2 : goal.operand-returns-in_err-part-2
@@ -112,7 +112,7 @@ operand-returns t c =
     let within = left_within _ an_expression (prefixed c.in-Some.place c.in-Some.op c.in-Some.own) _ _ _ c.in_ok-part-2.ensures in
     record {
       value = prefixed_read _ _ _ _ _ _ _ _ _ c.requires.least (sym c.in-Some.ensures.value) c.in_ok-part-2.ensures;
-      behind = omega (arith, fewer, within)
+      behind = omega (arith, fewer, within);
     }
 
 pub operands-returns : goal.operands-returns
