@@ -3,3 +3,4 @@ pub mod Walks
 pub mod Asserting
 pub mod Visits
 pub mod Starts
+pub mod Awaited

@@ -11,7 +11,7 @@ use Rattle.sat_log.specs.declared.line.LogLine.{LogLine}
 use Rattle.sat_log.proofs.LiteralLemmas.{All-among, packed_injective}
 use Rattle.sat_trail.specs.Trail.{literals, top, before, bottom}
 use Rattle.sat_trail.specs.Units.{IsTrail, IsReason, IsConflict, IsQuiet, AreQuiet}
-use Rattle.sat_analysis.specs.Analysis.{room, IsUnmarked, marked_at, MarksOthers, AreFalseIn, IsAnalysis}
+use Rattle.sat_analysis.specs.Analysis.{IsUnmarked, marked_at, MarksOthers, AreFalseIn, IsAnalysis}
 use Rattle.sat_trail.proofs.Logs.{All-clause}
 use Rattle.sat_trail.proofs.Trails.{consistent}
 use Rattle.sat_analysis.proofs.Walks.{start}
@@ -38,7 +38,7 @@ module _ (log : List LogLine) (entries : List Entry) (id : ℕ) (t : IsTrail log
   pub conflict_false_in : AreFalseIn (literals entries) conflict.clause (literals entries)
   conflict_false_in l m other = All-among (λ l. Among (literals entries) (negated l)) conflict.clause l conflict.falsified m
 
-  pub conflict_starts : (old seen : List Bool) → IsUnmarked old → MarksOthers (literals entries) conflict.clause old seen → length entries + 1 ≤ room seen → IsAnalysis log entries (record { seen = seen; lits = []; hints = id ∷ [] })
+  pub conflict_starts : (old seen : List Bool) → IsUnmarked old → MarksOthers (literals entries) conflict.clause old seen → length entries + 1 ≤ length seen → IsAnalysis log entries (record { seen = seen; lits = []; hints = id ∷ [] })
   conflict_starts old seen clear marks fits =
       start log entries (literals entries) conflict.clause id old seen [] conflict.named (trail_distinct log entries t) clear marks conflict_false_in (λ k m. inl (conflict_others k m)) tt (no_lits entries) tt (omega arith) (omega arith)
 
@@ -61,7 +61,7 @@ module _ (log : List LogLine) (entries rest : List Entry) (id : ℕ) (l : Litera
       by_number (inr ne) =
           inl (λ n. consistent (literals entries) (trail_distinct log entries t) k n (inside (negated k) (r.implies.others_false k m (λ same. ne (ap packed same)))))
 
-  pub implied_starts : (old seen : List Bool) → IsUnmarked old → MarksOthers (literals entries) r.clause old seen → HasDistinctVariables (literals rest) → AllByRecursion (λ e. e.literal.var ≢ l.var) rest → length rest + 1 ≤ room seen → IsAnalysis log rest (record { seen = seen; lits = l ∷ []; hints = id ∷ [] })
+  pub implied_starts : (old seen : List Bool) → IsUnmarked old → MarksOthers (literals entries) r.clause old seen → HasDistinctVariables (literals rest) → AllByRecursion (λ e. e.literal.var ≢ l.var) rest → length rest + 1 ≤ length seen → IsAnalysis log rest (record { seen = seen; lits = l ∷ []; hints = id ∷ [] })
   implied_starts old seen clear marks distinct apart fits =
       start log rest (literals entries) r.clause id old seen (l ∷ []) r.named distinct clear marks implied_false_in kept_or_false (tt, tt) (All-map (λ e. e.literal.var ≢ l.var) (λ e. AllByRecursion (λ k. k.var ≢ e.literal.var) (l ∷ [])) rest (λ e ne. ((λ v. ne (sym v)), tt)) apart) (r.implies.stands, tt) (omega arith) (omega arith)
 

@@ -2,7 +2,7 @@
 use Rattle.std.proofs.Common.{◌≡◌, ℕ, ◌+◌, ◌-◌, ◌≤◌, Bool, true, false, cond, eqb, ◌&&◌, inl, inr, List, [], ◌∷◌, ◌++◌, length, take, set, refl, ap, sym, subst, ◌∙◌, arith}
 use Rattle.std.specs.Prelude.{Option, None, Some}
 use Rattle.std.specs.List.{AllByRecursion}
-use Rattle.std.proofs.lemmas.List.{take-append-drop, length-drop}
+use Rattle.std.proofs.lemmas.List.{take-append-drop, length-drop, set-get_or}
 use Rattle.sat_log.specs.Literal.{Literal, negated}
 use Rattle.sat_log.specs.Clause.{Among}
 use Rattle.sat_log.specs.Accepted.{IsLog}
@@ -14,7 +14,7 @@ use Rattle.sat_analysis.specs.Analysis.{Analyzed, is_marked, IsMarked, marked_at
 use Rattle.sat_trail.proofs.Logs.{named_distinct}
 use Rattle.sat_trail.proofs.Trails.{consistent}
 use Rattle.sat_analysis.proofs.Walks.{step_skip, step_keep, step_resolve}
-use Rattle.sat_trail.proofs.Levels.{trail_distinct, trail_back}
+use Rattle.sat_trail.proofs.Levels.{trail_distinct, trail_back, among_below}
 use Rattle.sat_trail.specs.declared.trail.Entry.{Entry}
 
 pub parts_of : (entries : List Entry) (i : ℕ) (e : Entry) → bottom (i + 1) entries ≡ e ∷ bottom i entries → entries ≡ take (length entries - (i + 1)) entries ++ e ∷ bottom i entries
@@ -44,10 +44,6 @@ analyzed_is x lits hints l h =
 pub unmarked_at : (x a : Analyzed) (v w : ℕ) → x ≡ record { seen = set a.seen v false; lits = a.lits; hints = a.hints } → v ≡ w → x ≡ record { seen = set a.seen w false; lits = a.lits; hints = a.hints }
 unmarked_at x a v w e same = e ∙ ap (λ (u : ℕ). record { seen = set a.seen u false; lits = a.lits; hints = a.hints }) same
 
-among_whole : (above back : List Entry) (l : Literal) → Among (literals back) l → Among (literals (above ++ back)) l
-among_whole [] back l m = m
-among_whole (a ∷ above) back l m = inr (among_whole above back l m)
-
 -- An entry in its trail.
 module _ (log : List LogLine) (entries : List Entry) (i : ℕ) (e : Entry) (t : IsTrail log entries) (here : bottom (i + 1) entries ≡ e ∷ bottom i entries) where
   pub trail_at : IsTrail log (e ∷ bottom i entries)
@@ -56,7 +52,7 @@ module _ (log : List LogLine) (entries : List Entry) (i : ℕ) (e : Entry) (t : 
 
   pub in_whole : (l : Literal) → Among (literals (e ∷ bottom i entries)) l → Among (literals entries) l
   in_whole l m =
-      subst (λ (es : List Entry). Among (literals es) l) (sym (parts_of entries i e here)) (among_whole (take (length entries - (i + 1)) entries) (e ∷ bottom i entries) l m)
+      subst (λ (es : List Entry). Among (literals es) l) (sym (parts_of entries i e here)) (among_below (take (length entries - (i + 1)) entries) (e ∷ bottom i entries) l m)
 
   -- the clause by which it was implied
   pub reason_at : (id : ℕ) → e.reason ≡ Some id → IsReason log (literals (bottom i entries)) id e.literal
@@ -84,7 +80,9 @@ module _ (log : List LogLine) (entries : List Entry) (i : ℕ) (e : Entry) (a : 
   state_here = subst (λ (rest : List Entry). IsAnalysis log rest a) here state
 
   pub visit_skip : is_marked a.seen e.literal.var ≡ false → IsAnalysis log (bottom i entries) (record { seen = set a.seen e.literal.var false; lits = a.lits; hints = a.hints })
-  visit_skip unmarked = step_skip log e (bottom i entries) a state_here tail_trail.0.fresh unmarked
+  visit_skip unmarked =
+      let same : set a.seen e.literal.var false ≡ a.seen = ap (set a.seen e.literal.var) (sym unmarked) ∙ set-get_or a.seen e.literal.var false in
+      subst (λ (seen : List Bool). IsAnalysis log (bottom i entries) (record { seen = seen; lits = a.lits; hints = a.hints })) (sym same) (step_skip log e (bottom i entries) a state_here unmarked)
 
   pub visit_keep : IsMarked a.seen e.literal.var → IsAnalysis log (bottom i entries) (record { seen = set a.seen e.literal.var false; lits = a.lits ++ negated e.literal ∷ []; hints = a.hints })
   visit_keep marked = step_keep log e (bottom i entries) a state_here tail_trail.0.fresh marked

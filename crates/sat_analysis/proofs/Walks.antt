@@ -13,7 +13,7 @@ use Rattle.sat_log.proofs.ListLemmas.{All-append, All-front, All-back}
 use Rattle.sat_log.proofs.LiteralLemmas.{negated-negated, among_append, among_front, among_push, All-among, All-from_among}
 use Rattle.sat_trail.specs.Trail.{literals}
 use Rattle.sat_trail.specs.Units.{Implies}
-use Rattle.sat_analysis.specs.Analysis.{Analyzed, room, is_marked, IsMarked, IsUnmarked, HasVariable, HasOther, MarksOthers, AreFalseIn, Explains, IsBase, IsAnalysis}
+use Rattle.sat_analysis.specs.Analysis.{Analyzed, is_marked, IsMarked, IsUnmarked, HasVariable, HasOther, MarksOthers, AreFalseIn, Explains, IsBase, IsAnalysis}
 use Rattle.sat_analysis.proofs.Marks.{other_marked}
 use Rattle.sat_trail.proofs.Lists.{All-map, All-both}
 use Rattle.sat_trail.specs.declared.trail.Entry.{Entry}
@@ -76,7 +76,7 @@ gone seen v = by_place (cases_lt v (length seen))
     by_place (inl h) = get_or-set_same seen v false false h
     by_place (inr h) = ap (λ (s : List Bool). is_marked s v) (set_past seen v false h) ∙ get_or_past seen v false h
 
-not_gone : (seen : List Bool) (v w : ℕ) → IsMarked (set seen v false) w → (w ≢ v) × IsMarked seen w
+pub not_gone : (seen : List Bool) (v w : ℕ) → IsMarked (set seen v false) w → (w ≢ v) × IsMarked seen w
 not_gone seen v w h = (other, sym (other_marked seen v w false other) ∙ h)
   where
     other : w ≢ v
@@ -91,28 +91,24 @@ within_rest e rest v ne (inr h) = h
 
 module _ (log : List LogLine) (e : Entry) (rest : List Entry) (a : Analyzed) where
   -- An entry that isn't marked is passed over.
-  pub step_skip : IsAnalysis log (e ∷ rest) a → AllByRecursion (λ f. f.literal.var ≢ e.literal.var) rest → is_marked a.seen e.literal.var ≡ false → IsAnalysis log rest (record { seen = set a.seen e.literal.var false; lits = a.lits; hints = a.hints })
-  step_skip h fresh unmarked =
-      let size : length (set a.seen e.literal.var false) ≡ length a.seen = length-set a.seen e.literal.var false in
+  pub step_skip : IsAnalysis log (e ∷ rest) a → is_marked a.seen e.literal.var ≡ false → IsAnalysis log rest a
+  step_skip h unmarked =
       let lits_room = h.lits_room in
       let hints_room = h.hints_room in
       record {
         explains = (λ set_ b. h.explains set_ (base set_ b));
-        rest_drawn = All-map (λ f. IsMarked a.seen f.literal.var → StandsInSome log a.hints (negated f.literal)) (λ f. IsMarked (set a.seen e.literal.var false) f.literal.var → StandsInSome log a.hints (negated f.literal)) rest (λ f old m. old (not_gone a.seen e.literal.var f.literal.var m).1) h.rest_drawn.1;
+        rest_drawn = h.rest_drawn.1;
         lits_drawn = h.lits_drawn;
-        marks_within = (λ v m. let p = not_gone a.seen e.literal.var v m in within_rest e rest v p.0 (h.marks_within v p.1));
+        marks_within = (λ v m. within_rest e rest v (λ same. false≢true (sym unmarked ∙ subst (IsMarked a.seen) same m)) (h.marks_within v m));
         distinct = h.distinct;
         apart = h.apart.1;
         lits_room = omega arith;
         hints_room = omega arith;
       }
     where
-      base : (set_ : List Literal) → IsBase rest (record { seen = set a.seen e.literal.var false; lits = a.lits; hints = a.hints }) set_ → IsBase (e ∷ rest) a set_
+      base : (set_ : List Literal) → IsBase rest a set_ → IsBase (e ∷ rest) a set_
       base set_ b = record {
-        marked = (
-          (λ m. absurd (false≢true (sym unmarked ∙ m))),
-          All-entries (λ f. (f.literal.var ≢ e.literal.var) × (IsMarked (set a.seen e.literal.var false) f.literal.var → Among set_ f.literal)) (λ f. IsMarked a.seen f.literal.var → Among set_ f.literal) rest (λ f _ p m. p.1 (stays a.seen e.literal.var f.literal.var p.0 m)) (All-both (λ f. f.literal.var ≢ e.literal.var) (λ f. IsMarked (set a.seen e.literal.var false) f.literal.var → Among set_ f.literal) rest fresh b.marked),
-        );
+        marked = ((λ m. absurd (false≢true (sym unmarked ∙ m))), b.marked);
         kept = b.kept;
         only = All-map (λ l. Among (literals rest) l ⊎ Among a.lits (negated l)) (λ l. Among (literals (e ∷ rest)) l ⊎ Among a.lits (negated l)) set_ (λ l m. weaker l m) b.only;
       }
@@ -255,7 +251,7 @@ module _ (log : List LogLine) (rest : List Entry) (true_ c : List Literal) (id :
       by_kept k m (inl other) = set_in seen set_ rest (negated k) b.marked (false_in k m other) (marks.all k m other)
       by_kept k m (inr n) = All-among (λ l. Among set_ (negated l)) lits k b.kept n
 
-  pub start : HasDistinctVariables lits → AllByRecursion (λ e. AllByRecursion (λ l. l.var ≢ e.literal.var) lits) rest → AllByRecursion (Among c) lits → length lits + length rest ≤ room seen → 1 + length rest ≤ room seen → IsAnalysis log rest (record { seen = seen; lits = lits; hints = id ∷ [] })
+  pub start : HasDistinctVariables lits → AllByRecursion (λ e. AllByRecursion (λ l. l.var ≢ e.literal.var) lits) rest → AllByRecursion (Among c) lits → length lits + length rest ≤ length seen → 1 + length rest ≤ length seen → IsAnalysis log rest (record { seen = seen; lits = lits; hints = id ∷ [] })
   start distinct apart drawn lits_room hints_room =
       record {
         explains = (λ set_ b. ((c, named, falsified set_ b), tt));

@@ -1,6 +1,6 @@
 -- Conflict analysis: from a false clause back along the trail.
-use Rattle.std.specs.Prelude.{◌≡◌, ◌≢◌, ◌⊎◌, ◌+◌, ◌*◌, ◌≤◌, ◌==◌, ◌&&◌, ℕ, Bool, true, false, List, [], ◌∷◌, length, slice_index_or, if◌then◌else◌}
-use Rattle.std.specs.List.{AllByRecursion}
+use Rattle.std.specs.Prelude.{◌≡◌, ◌≢◌, ◌⊎◌, ◌+◌, ◌≤◌, ◌==◌, ◌&&◌, ℕ, Bool, true, false, List, [], ◌∷◌, length, slice_index_or, count_by, if◌then◌else◌}
+use Rattle.std.specs.List.{AllByRecursion, Contains}
 use Rattle.sat_log.specs.Literal.{Literal, negated}
 use Rattle.sat_log.specs.Clause.{Among, IsFalsified, IsUnset, HasDistinctVariables}
 use Rattle.sat_log.specs.Accepted.{Refutes}
@@ -14,10 +14,6 @@ pub record Analyzed : Type 0 where
   pub seen : List Bool
   pub lits : List Literal
   pub hints : List ℕ
-
--- how many literals and hints there is room for, with marks for so many variables
-abbrev pub room : List Bool → ℕ
-room seen = 2 * length seen + 1
 
 abbrev pub is_marked : List Bool → ℕ → Bool
 is_marked seen v = slice_index_or seen v false
@@ -34,6 +30,26 @@ abbrev pub marked_at : ℕ → List Bool → List Entry → ℕ
 marked_at level seen [] = 0
 marked_at level seen (e ∷ entries) =
     (if e.level == level && is_marked seen e.literal.var then 1 else 0) + marked_at level seen entries
+
+-- how many variables are marked
+abbrev pub marked_count : List Bool → ℕ
+marked_count seen = count_by (λ b. b) seen
+
+-- An analysis, and the positions of entries that it may have to look at.
+pub record Walk : Type 0 where
+  pub state : Analyzed
+  pub positions : List ℕ
+
+-- the position of each marked entry is among these
+abbrev pub AreAwaited : List ℕ → List Bool → List Entry → Type 0
+AreAwaited positions seen [] = Unit {0}
+AreAwaited positions seen (e ∷ entries) =
+    (IsMarked seen e.literal.var → Contains positions (length entries)) × AreAwaited positions seen entries
+
+-- Each marked entry of the rest of the trail is awaited, and there are no more positions than marks.
+pub record Awaits (w : Walk) (rest : List Entry) : Type 0 where
+  pub marked : AreAwaited w.positions w.state.seen rest
+  pub few : length w.positions ≤ marked_count w.state.seen
 
 -- one of the entries is of the variable
 abbrev pub HasVariable : List Entry → ℕ → Type 0
@@ -78,8 +94,8 @@ pub record IsAnalysis (log : List LogLine) (rest : List Entry) (a : Analyzed) : 
   pub marks_within : (v : ℕ) → IsMarked a.seen v → HasVariable rest v
   pub distinct : HasDistinctVariables a.lits
   pub apart : AllByRecursion (λ e. AllByRecursion (λ l. l.var ≢ e.literal.var) a.lits) rest
-  pub lits_room : length a.lits + length rest ≤ room a.seen
-  pub hints_room : length a.hints + length rest ≤ room a.seen
+  pub lits_room : length a.lits + length rest ≤ length a.seen
+  pub hints_room : length a.hints + length rest ≤ length a.seen
 
 -- Where the first of these literals is false before some level, so are the others: it is of the latest level.
 abbrev pub IsLatestFirst : List Entry → List Literal → Type 0

@@ -1,16 +1,21 @@
 //! The marks, the literals and the hints of conflict analysis.
 
-ghost use Rattle.std.specs.Prelude.{◌≡◌, ◌+◌, ◌*◌, ◌<◌, ◌≤◌, ◌∷◌, ◌++◌, ℕ, List, Bool, true, false, [], length, Some, slice_set, IfOk, OnOk, OnErr};
+ghost use Rattle.std.specs.Prelude.{◌≡◌, ◌⊎◌, ◌+◌, ◌<◌, ◌≤◌, ◌∷◌, ◌++◌, ℕ, List, Bool, true, false, [], length, Some, slice_set, IfOk, IfSome, IfNone, OnOk, OnErr};
+ghost use Rattle.std.specs.BinaryHeap.{heap_items, heap_len, heap_capacity, KeepsHeap};
+ghost use Rattle.std.specs.List.{Contains};
+ghost use Rattle.std.specs.Ordering.{nat_cmp};
 ghost use Rattle.sat_log.specs.Literal.{Literal, negated};
 ghost use Rattle.sat_log.specs.Clause.{HasDistinctVariables};
 ghost use Rattle.sat_log.specs.Accepted.{clause_at};
 ghost use Rattle.sat_log.specs.Checking.{IsUpTo, AreUpTo};
 ghost use Rattle.sat_trail.specs.Trail.{literals, bottom};
-ghost use Rattle.sat_analysis.specs.Analysis.{IsJump, room, is_marked, IsUnmarked, marked_at, MarksOthers, AreFalseIn};
+ghost use Rattle.sat_trail.specs.declared.trail.Entry.{Entry};
+ghost use Rattle.sat_analysis.specs.Analysis.{IsJump, is_marked, IsUnmarked, marked_at, marked_count, MarksOthers, AreFalseIn, AreAwaited, Awaits};
 
 use sat_log::{Ids, LineKind, Log, LogLine, SLit, SLits};
 use sat_trail::{Trail, clause_at};
 use std::alloc::{AllocError, Global};
+use std::collections::BinaryHeap;
 use std::marker::Model;
 
 /// What conflict analysis works in: it is kept from one conflict to the next, with room for every variable.
@@ -18,6 +23,8 @@ use std::marker::Model;
 pub struct Analysis {
     /// By variables.
     seen: Vec<bool>,
+    /// The positions in the trail of what is marked, and perhaps of what was.
+    positions: BinaryHeap<usize>,
     lits: Vec<SLit>,
     /// The last one first.
     hints: Vec<u64>,
@@ -26,32 +33,53 @@ pub struct Analysis {
 }
 
 impl Model for Analysis {
-    ghost use Rattle.std.specs.Prelude.{◌≤◌, reverse, vec_capacity};
-    ghost use Rattle.sat_analysis.specs.Analysis.{Analyzed, room};
+    ghost use Rattle.std.specs.Prelude.{◌≤◌, length, reverse, vec_capacity};
+    ghost use Rattle.std.specs.BinaryHeap.{IsHeap, heap_items, heap_capacity};
+    ghost use Rattle.std.specs.Ordering.{nat_cmp};
+    ghost use Rattle.sat_analysis.specs.Analysis.{Walk};
 
-    ghost Value = { Analyzed };
+    ghost Value = { Walk };
 
     ghost view = { λ a. record {
-      seen = a.seen.items;
-      lits = a.lits.items;
-      hints = reverse a.hints.items;
+      state = record {
+        seen = a.seen.items;
+        lits = a.lits.items;
+        hints = reverse a.hints.items;
+      };
+      positions = heap_items a.positions;
     } };
 
-    ghost invariant = { λ a. (room a.seen.items ≤ vec_capacity a.lits) ×
-        (room a.seen.items ≤ vec_capacity a.hints) };
+    ghost invariant = { λ a. IsHeap nat_cmp (heap_items a.positions) ×
+        (length a.seen.items ≤ heap_capacity a.positions) ×
+        (length a.seen.items ≤ vec_capacity a.lits) ×
+        (length a.seen.items ≤ vec_capacity a.hints) };
 }
 
-/// Marks the variables of the clause's literals that are not true. Answers how many that were not marked before have
-/// this level.
-fn mark_others(seen: &mut [bool], trail: &Trail, clause: &[SLit], level: u64) -> usize
+/// Marks the variables of the clause's literals that are not true, and adds the positions of those that were not marked
+/// before. Answers how many of these have this level.
+fn mark_others(
+    seen: &mut [bool],
+    positions: &mut BinaryHeap<usize>,
+    trail: &Trail,
+    clause: &[SLit],
+    level: u64,
+) -> usize
     requires distinct { HasDistinctVariables (literals trail.now.entries) }
     requires exist { IsUpTo trail.now.variables clause.now }
     requires size { trail.now.variables < length seen.old }
+    requires room { length seen.old ≤ heap_capacity positions.old }
+    requires few { heap_len positions.old ≤ marked_count seen.old }
     ensures marks { MarksOthers (literals trail.now.entries) clause.now seen.old seen.new }
     ensures count { (i : ℕ) →
         AreFalseIn (literals trail.now.entries) clause.now (literals (bottom i trail.now.entries)) →
         marked_at level seen.new (bottom i trail.now.entries) ≡
         marked_at level seen.old (bottom i trail.now.entries) + result }
+    ensures awaited { (i : ℕ) →
+        AreAwaited (heap_items positions.old) seen.old (bottom i trail.now.entries) →
+        AreAwaited (heap_items positions.new) seen.new (bottom i trail.now.entries) }
+    ensures few { heap_len positions.new ≤ marked_count seen.new }
+    ensures heap { KeepsHeap nat_cmp (heap_items positions.old) (heap_items positions.new) }
+    ensures room { heap_capacity positions.old ≤ heap_capacity positions.new }
 {
     let mut found = 0;
     for &literal in clause {
@@ -60,6 +88,8 @@ fn mark_others(seen: &mut [bool], trail: &Trail, clause: &[SLit], level: u64) ->
             continue;
         }
         seen[var as usize] = true;
+        // There is room: a position was added for no more than each variable that is marked.
+        let _added = positions.push(trail.position(var));
         if trail.level_of(var) == level {
             found += 1;
         }
@@ -70,12 +100,14 @@ fn mark_others(seen: &mut [bool], trail: &Trail, clause: &[SLit], level: u64) ->
 impl Analysis {
     /// Nothing marked, and no variables.
     pub fn new(alloc: Global) -> Result<Analysis, AllocError>
-        ensures { IfOk result (λ a. a ≡ record { seen = false ∷ []; lits = []; hints = [] }) }
+        ensures { IfOk result (λ a. a.state ≡
+            record { seen = false ∷ []; lits = []; hints = [] }) }
     {
         Ok(Analysis {
             seen: vec![in alloc; false]?,
-            lits: Vec::with_capacity(alloc, 3)?,
-            hints: Vec::with_capacity(alloc, 3)?,
+            positions: BinaryHeap::with_capacity(alloc, 1)?,
+            lits: Vec::with_capacity(alloc, 1)?,
+            hints: Vec::with_capacity(alloc, 1)?,
             met: Vec::new(alloc),
         })
     }
@@ -86,25 +118,30 @@ impl Analysis {
     ///
     /// `AllocError` where memory is refused; what is marked stays as it was.
     pub fn make_room(&mut self, var: u64) -> Result<(), AllocError>
-        requires { var ≤ length self.old.seen }
-        ensures ok { OnOk result (var < length self.new.seen) }
-        ensures longer { length self.old.seen ≤ length self.new.seen }
-        ensures clear { IsUnmarked self.old.seen → IsUnmarked self.new.seen }
+        requires { var ≤ length self.old.state.seen }
+        ensures ok { OnOk result (var < length self.new.state.seen) }
+        ensures longer { length self.old.state.seen ≤ length self.new.state.seen }
+        ensures clear { IsUnmarked self.old.state.seen → IsUnmarked self.new.state.seen }
     {
         if (var as usize) < self.seen.len() {
             return Ok(());
         }
+        self.clear();
         self.seen.reserve(1)?;
-        self.lits.reserve(2 * self.seen.len() + 3)?;
-        self.hints.reserve(2 * self.seen.len() + 3)?;
+        self.positions.reserve(self.seen.len() + 1)?;
+        self.lits.reserve(self.seen.len() + 1)?;
+        self.hints.reserve(self.seen.len() + 1)?;
         self.seen.push_reserved(false);
         Ok(())
     }
 
-    /// Forgets the literals and the hints.
+    /// Forgets the positions, the literals and the hints.
     pub(crate) fn clear(&mut self)
-        ensures { self.new ≡ record { seen = self.old.seen; lits = []; hints = [] } }
+        ensures state { self.new.state ≡
+            record { seen = self.old.state.seen; lits = []; hints = [] } }
+        ensures positions { self.new.positions ≡ [] }
     {
+        self.positions.clear();
         self.lits.clear();
         self.hints.clear();
         self.met.clear();
@@ -115,15 +152,36 @@ impl Analysis {
         self.met.as_slice()
     }
 
+    /// Takes positions out, the latest first, until one is below the limit.
+    pub(crate) fn next(&mut self, limit: usize) -> Option<usize>
+        ensures below { IfSome result (λ i. i < limit) }
+        ensures others { IfSome result (λ i. (q : ℕ) → q < limit → Contains self.old.positions q →
+            (q ≡ i) ⊎ ((q < i) × Contains self.new.positions q)) }
+        ensures fewer { IfSome result
+            (λ _. length self.new.positions < length self.old.positions) }
+        ensures none { IfNone result ((q : ℕ) → q < limit → ¬ Contains self.old.positions q) }
+        ensures state { self.new.state ≡ self.old.state }
+    {
+        while let Some(position) = self.positions.pop() {
+            if position < limit {
+                return Some(position);
+            }
+        }
+        None
+    }
+
     /// Takes away the mark of a variable, and answers whether there was one.
     pub(crate) fn unmark(&mut self, var: u64) -> bool
-        requires { var < length self.old.seen }
-        ensures mark { result ≡ is_marked self.old.seen var }
-        ensures new { self.new ≡ record {
-          seen = slice_set self.old.seen var false;
-          lits = self.old.lits;
-          hints = self.old.hints;
+        requires { var < length self.old.state.seen }
+        ensures mark { result ≡ is_marked self.old.state.seen var }
+        ensures new { self.new.state ≡ record {
+          seen = slice_set self.old.state.seen var false;
+          lits = self.old.state.lits;
+          hints = self.old.state.hints;
         } }
+        ensures awaited { (rest : List Entry) →
+            AreAwaited self.old.positions self.old.state.seen rest →
+            length self.old.positions < marked_count self.old.state.seen → Awaits self.new rest }
     {
         let marked = self.seen[var as usize];
         self.seen[var as usize] = false;
@@ -136,12 +194,13 @@ impl Analysis {
 
     /// Adds a literal to the clause.
     pub(crate) fn keep(&mut self, literal: SLit)
-        requires { length self.old.lits < room self.old.seen }
-        ensures { self.new ≡ record {
-          seen = self.old.seen;
-          lits = self.old.lits ++ literal ∷ [];
-          hints = self.old.hints;
+        requires { length self.old.state.lits < length self.old.state.seen }
+        ensures state { self.new.state ≡ record {
+          seen = self.old.state.seen;
+          lits = self.old.state.lits ++ literal ∷ [];
+          hints = self.old.state.hints;
         } }
+        ensures awaited { (rest : List Entry) → Awaits self.old rest → Awaits self.new rest }
     {
         self.lits.push_reserved(literal);
     }
@@ -151,29 +210,32 @@ impl Analysis {
     pub(crate) fn resolve(&mut self, log: &Log, trail: &Trail, id: u64, level: u64) -> usize
         requires distinct { HasDistinctVariables (literals trail.now.entries) }
         requires exist { AreUpTo trail.now.variables log.now }
-        requires size { trail.now.variables < length self.old.seen }
-        requires room { length self.old.hints < room self.old.seen }
+        requires size { trail.now.variables < length self.old.state.seen }
+        requires room { length self.old.state.hints < length self.old.state.seen }
+        requires few { length self.old.positions ≤ marked_count self.old.state.seen }
         ensures marks { (c : List Literal) → clause_at log.now id ≡ Some c →
-            MarksOthers (literals trail.now.entries) c self.old.seen self.new.seen }
+            MarksOthers (literals trail.now.entries) c self.old.state.seen self.new.state.seen }
         ensures count { (c : List Literal) (i : ℕ) → clause_at log.now id ≡ Some c →
             AreFalseIn (literals trail.now.entries) c (literals (bottom i trail.now.entries)) →
-            marked_at level self.new.seen (bottom i trail.now.entries) ≡
-            marked_at level self.old.seen (bottom i trail.now.entries) + result }
-        ensures size { length self.new.seen ≡ length self.old.seen }
-        ensures lits { self.new.lits ≡ self.old.lits }
-        ensures hints { self.new.hints ≡ id ∷ self.old.hints }
+            marked_at level self.new.state.seen (bottom i trail.now.entries) ≡
+            marked_at level self.old.state.seen (bottom i trail.now.entries) + result }
+        ensures awaited { (i : ℕ) → Awaits self.old (bottom i trail.now.entries) →
+            Awaits self.new (bottom i trail.now.entries) }
+        ensures size { length self.new.state.seen ≡ length self.old.state.seen }
+        ensures lits { self.new.state.lits ≡ self.old.state.lits }
+        ensures hints { self.new.state.hints ≡ id ∷ self.old.state.hints }
     {
         self.hints.push_reserved(id);
         match clause_at(log, id) {
-            Some(clause) => mark_others(&mut self.seen, trail, clause, level),
+            Some(clause) => mark_others(&mut self.seen, &mut self.positions, trail, clause, level),
             None => 0,
         }
     }
 
     /// The level to which the search jumps back: the latest one among the literals of the clause but the first, or 0.
     pub fn jump_level(&self, trail: &Trail) -> u64
-        requires { IsUpTo trail.now.variables self.now.lits }
-        ensures { IsJump trail.now.entries self.now.lits result }
+        requires { IsUpTo trail.now.variables self.now.state.lits }
+        ensures { IsJump trail.now.entries self.now.state.lits result }
     {
         match self.lits.get(1) {
             Some(literal) => trail.level_of(literal.var()),
@@ -188,7 +250,7 @@ impl Analysis {
     /// `AllocError` where memory is refused.
     pub fn line(&self, alloc: Global, kind: LineKind) -> Result<LogLine, AllocError>
         ensures { IfOk result (λ line. line ≡
-            record { kind = kind; lits = self.now.lits; hints = self.now.hints }) }
+            record { kind = kind; lits = self.now.state.lits; hints = self.now.state.hints }) }
     {
         Ok(LogLine {
             kind,

@@ -7,9 +7,9 @@ ghost use Rattle.sat_log.specs.Clause.{Among};
 ghost use Rattle.sat_log.specs.Accepted.{IsLog};
 ghost use Rattle.sat_log.specs.Clauses.{clauses};
 ghost use Rattle.sat_log.specs.Checking.{AreUpTo};
-ghost use Rattle.sat_trail.specs.Trail.{literals, top, before, bottom, places};
+ghost use Rattle.sat_trail.specs.Trail.{literals, top, before, bottom};
 ghost use Rattle.sat_trail.specs.Units.{IsTrail, IsReason, IsConflict, AreQuiet, AreDecided};
-ghost use Rattle.sat_analysis.specs.Analysis.{IsUnmarked, marked_at, IsAnalysis, IsAsserting, AreNegationsOf};
+ghost use Rattle.sat_analysis.specs.Analysis.{IsUnmarked, marked_at, marked_count, AreAwaited, Awaits, IsAnalysis, IsAsserting, AreNegationsOf};
 
 use crate::analysis::Analysis;
 use sat_log::{Log, SLit};
@@ -38,18 +38,22 @@ impl Analysis {
         requires log { IsLog log.now }
         requires trail { IsTrail log.now trail.now.entries }
         requires exist { AreUpTo trail.now.variables log.now }
-        requires size { trail.now.variables < length self.old.seen }
+        requires size { trail.now.variables < length self.old.state.seen }
         requires inside { i < length trail.now.entries }
         requires latest { top trail.now.entries ≡ level }
         requires above { 1 ≤ level }
-        requires state { IsAnalysis log.now (bottom (i + 1) trail.now.entries) self.old }
-        requires counted { pending ≡ marked_at level self.old.seen
+        requires state { IsAnalysis log.now (bottom (i + 1) trail.now.entries) self.old.state }
+        requires awaited { AreAwaited self.old.positions self.old.state.seen
+            (bottom i trail.now.entries) }
+        requires few { length self.old.positions < marked_count self.old.state.seen }
+        requires counted { pending ≡ marked_at level self.old.state.seen
             (bottom (i + 1) trail.now.entries) }
-        requires asserting { IsAsserting level trail.now.entries pending self.old.lits }
-        ensures state { IsAnalysis log.now (bottom i trail.now.entries) self.new }
-        ensures counted { result ≡ marked_at level self.new.seen (bottom i trail.now.entries) }
-        ensures asserting { IsAsserting level trail.now.entries result self.new.lits }
-        ensures size { length self.new.seen ≡ length self.old.seen }
+        requires asserting { IsAsserting level trail.now.entries pending self.old.state.lits }
+        ensures state { IsAnalysis log.now (bottom i trail.now.entries) self.new.state }
+        ensures awaited { Awaits self.new (bottom i trail.now.entries) }
+        ensures counted { result ≡ marked_at level self.new.state.seen (bottom i trail.now.entries) }
+        ensures asserting { IsAsserting level trail.now.entries result self.new.state.lits }
+        ensures size { length self.new.state.seen ≡ length self.old.state.seen }
     {
         let entry = trail.entry(i);
         if !self.unmark(entry.literal.var()) {
@@ -75,21 +79,23 @@ impl Analysis {
         requires log { IsLog log.now }
         requires trail { IsTrail log.now trail.now.entries }
         requires exist { AreUpTo trail.now.variables log.now }
-        requires size { trail.now.variables < length self.old.seen }
-        requires clear { IsUnmarked self.old.seen }
+        requires size { trail.now.variables < length self.old.state.seen }
+        requires clear { IsUnmarked self.old.state.seen }
         requires conflict { IsConflict log.now (literals trail.now.entries) conflict }
         requires above { 1 ≤ top trail.now.entries }
         requires quiet { AreQuiet (literals (before (top trail.now.entries) trail.now.entries))
             (clauses log.now) }
-        ensures state { IsAnalysis log.now [] self.new }
-        ensures asserting { IsAsserting (top trail.now.entries) trail.now.entries 0 self.new.lits }
-        ensures size { length self.new.seen ≡ length self.old.seen }
+        ensures state { IsAnalysis log.now [] self.new.state }
+        ensures asserting { IsAsserting (top trail.now.entries) trail.now.entries 0 self.new.state.lits }
+        ensures size { length self.new.state.seen ≡ length self.old.state.seen }
     {
         self.clear();
         let level = trail.level();
         let mut pending = self.resolve(log, trail, conflict, level);
-        for i in (0..trail.len()).rev() {
+        let mut limit = trail.len();
+        while let Some(i) = self.next(limit) {
             pending = self.visit(log, trail, i, level, pending);
+            limit = i;
         }
     }
 
@@ -99,13 +105,17 @@ impl Analysis {
         requires log { IsLog log.now }
         requires trail { IsTrail log.now trail.now.entries }
         requires exist { AreUpTo trail.now.variables log.now }
-        requires size { trail.now.variables < length self.old.seen }
+        requires size { trail.now.variables < length self.old.state.seen }
         requires inside { i < length trail.now.entries }
-        requires state { IsAnalysis log.now (bottom (i + 1) trail.now.entries) self.old }
-        ensures state { IsAnalysis log.now (bottom i trail.now.entries) self.new }
+        requires state { IsAnalysis log.now (bottom (i + 1) trail.now.entries) self.old.state }
+        requires awaited { AreAwaited self.old.positions self.old.state.seen
+            (bottom i trail.now.entries) }
+        requires few { length self.old.positions < marked_count self.old.state.seen }
+        ensures state { IsAnalysis log.now (bottom i trail.now.entries) self.new.state }
+        ensures awaited { Awaits self.new (bottom i trail.now.entries) }
         ensures kept { (want : List Literal) → AreDecided want trail.now.entries →
-            AreNegationsOf want self.old.lits → AreNegationsOf want self.new.lits }
-        ensures size { length self.new.seen ≡ length self.old.seen }
+            AreNegationsOf want self.old.state.lits → AreNegationsOf want self.new.state.lits }
+        ensures size { length self.new.state.seen ≡ length self.old.state.seen }
     {
         let entry = trail.entry(i);
         if !self.unmark(entry.literal.var()) {
@@ -119,52 +129,69 @@ impl Analysis {
         }
     }
 
+    /// Looks at all marked entries before which fewer than `start` others were made.
+    fn trace_below(&mut self, log: &Log, trail: &Trail, start: usize)
+        requires log { IsLog log.now }
+        requires trail { IsTrail log.now trail.now.entries }
+        requires exist { AreUpTo trail.now.variables log.now }
+        requires size { trail.now.variables < length self.old.state.seen }
+        requires inside { start ≤ length trail.now.entries }
+        requires state { IsAnalysis log.now (bottom start trail.now.entries) self.old.state }
+        requires awaited { Awaits self.old (bottom start trail.now.entries) }
+        ensures state { IsAnalysis log.now [] self.new.state }
+        ensures kept { (want : List Literal) → AreDecided want trail.now.entries →
+            AreNegationsOf want self.old.state.lits → AreNegationsOf want self.new.state.lits }
+        ensures size { length self.new.state.seen ≡ length self.old.state.seen }
+    {
+        let mut limit = start;
+        while let Some(i) = self.next(limit) {
+            self.trace(log, trail, i);
+            limit = i;
+        }
+    }
+
     /// The clause over negations of decisions that a conflict leads to, with its hints: at level 0 it has no literal.
     pub fn refute(&mut self, log: &Log, trail: &Trail, conflict: u64)
         requires log { IsLog log.now }
         requires trail { IsTrail log.now trail.now.entries }
         requires exist { AreUpTo trail.now.variables log.now }
-        requires size { trail.now.variables < length self.old.seen }
-        requires clear { IsUnmarked self.old.seen }
+        requires size { trail.now.variables < length self.old.state.seen }
+        requires clear { IsUnmarked self.old.state.seen }
         requires conflict { IsConflict log.now (literals trail.now.entries) conflict }
-        ensures state { IsAnalysis log.now [] self.new }
+        ensures state { IsAnalysis log.now [] self.new.state }
         ensures kept { (want : List Literal) → AreDecided want trail.now.entries →
-            AreNegationsOf want self.new.lits }
-        ensures size { length self.new.seen ≡ length self.old.seen }
+            AreNegationsOf want self.new.state.lits }
+        ensures size { length self.new.state.seen ≡ length self.old.state.seen }
     {
         self.clear();
         let _marked = self.resolve(log, trail, conflict, 0);
-        for i in (0..trail.len()).rev() {
-            self.trace(log, trail, i);
-        }
+        self.trace_below(log, trail, trail.len());
     }
 
-    /// The same for a literal that is true, by the clause that implied it: the literal is kept too. Before its entry `place`
+    /// The same for a literal that is true, by the clause that implied it: the literal is kept too. Before its entry `position`
     /// others were made.
-    fn refute_from(&mut self, log: &Log, trail: &Trail, literal: SLit, reason: u64, place: usize)
+    fn refute_from(&mut self, log: &Log, trail: &Trail, literal: SLit, reason: u64, position: usize)
         requires log { IsLog log.now }
         requires trail { IsTrail log.now trail.now.entries }
         requires exist { AreUpTo trail.now.variables log.now }
-        requires size { trail.now.variables < length self.old.seen }
-        requires clear { IsUnmarked self.old.seen }
-        requires inside { place < length trail.now.entries }
-        requires room { length trail.now.entries ≤ places trail.now.variables }
+        requires size { trail.now.variables < length self.old.state.seen }
+        requires clear { IsUnmarked self.old.state.seen }
+        requires inside { position < length trail.now.entries }
+        requires room { position < trail.now.variables }
         requires implied { IsReason log.now
-            (literals (bottom place trail.now.entries)) reason literal }
+            (literals (bottom position trail.now.entries)) reason literal }
         requires true_ { Among (literals trail.now.entries) literal }
         requires apart { AllByRecursion (λ e. e.literal.var ≢ literal.var)
-            (bottom place trail.now.entries) }
-        ensures state { IsAnalysis log.now [] self.new }
+            (bottom position trail.now.entries) }
+        ensures state { IsAnalysis log.now [] self.new.state }
         ensures kept { (want : List Literal) → AreDecided want trail.now.entries →
-            Among want (negated literal) → AreNegationsOf want self.new.lits }
-        ensures size { length self.new.seen ≡ length self.old.seen }
+            Among want (negated literal) → AreNegationsOf want self.new.state.lits }
+        ensures size { length self.new.state.seen ≡ length self.old.state.seen }
     {
         self.clear();
         self.keep(literal);
         let _marked = self.resolve(log, trail, reason, 0);
-        for i in (0..place).rev() {
-            self.trace(log, trail, i);
-        }
+        self.trace_below(log, trail, position);
     }
 
     /// The clause over negations of wanted literals, of which this one is false, with its hints.
@@ -172,26 +199,22 @@ impl Analysis {
         requires log { IsLog log.now }
         requires trail { IsTrail log.now trail.now.entries }
         requires exist { AreUpTo trail.now.variables log.now }
-        requires size { trail.now.variables < length self.old.seen }
-        requires clear { IsUnmarked self.old.seen }
+        requires size { trail.now.variables < length self.old.state.seen }
+        requires clear { IsUnmarked self.old.state.seen }
+        requires exists { wanted.var ≤ trail.now.variables }
         requires false_ { Among (literals trail.now.entries) (negated wanted) }
         requires implied { AllByRecursion (λ e. e.reason ≡ None →
             e.literal ≢ negated wanted) trail.now.entries }
-        ensures state { IsAnalysis log.now [] self.new }
+        ensures state { IsAnalysis log.now [] self.new.state }
         ensures kept { (want : List Literal) → AreDecided want trail.now.entries →
-            Among want wanted → AreNegationsOf want self.new.lits }
-        ensures size { length self.new.seen ≡ length self.old.seen }
+            Among want wanted → AreNegationsOf want self.new.state.lits }
+        ensures size { length self.new.state.seen ≡ length self.old.state.seen }
     {
-        for place in (0..trail.len()).rev() {
-            let entry = trail.entry(place);
-            if entry.literal.var() != wanted.var() {
-                continue;
-            }
-            match entry.reason {
-                Some(reason) => self.refute_from(log, trail, entry.literal, reason, place),
-                None => {}
-            }
-            return;
+        let position = trail.position(wanted.var());
+        let entry = trail.entry(position);
+        match entry.reason {
+            Some(reason) => self.refute_from(log, trail, entry.literal, reason, position),
+            None => {}
         }
     }
 }

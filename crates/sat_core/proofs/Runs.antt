@@ -19,7 +19,6 @@ use Rattle.sat_core.specs.Assignment.{HasNoSolution}
 use Rattle.sat_core.specs.Verdicts.{IsBelow, IsWithin, IfNo}
 use Rattle.sat_core.specs.declared.verdict.Verdict.{Verdict}
 use Rattle.sat_core.specs.declared.verdict.Verdict.TheVariants.{Yes, No, Spent}
-use Rattle.sat_trail.specs.Trail.{places}
 use Rattle.sat_core.specs.Search.{Searched, AddsLearned, AddsFinal, StepsTo, MayStep, GoesOn}
 use Rattle.sat_core.specs.declared.search.Step.{Step}
 use Rattle.sat_core.specs.declared.search.Step.TheVariants.{Learned, Decided}
@@ -188,15 +187,15 @@ pub goes_on : (want : List Literal) (asked : ℕ) (new : Searched) (step : Step)
 goes_on want asked new step (inl e) s = subst (GoesOn want asked new) e s
 goes_on want asked new step (inr e) s = subst (GoesOn want asked new) e s
 
-pub step_left : (start : List LogLine) (want : List Literal) (old new : Searched) (step : Step) (few : ℕ) → (step ≡ Learned) ⊎ (step ≡ Decided) → HasLearned start old.log → StepsTo want old new step → conflicts (gained start new.log) ≤ few → left few (conflicts (gained start new.log)) (places new.variables) (length new.entries) < left few (conflicts (gained start old.log)) (places new.variables) (length old.entries)
+pub step_left : (start : List LogLine) (want : List Literal) (old new : Searched) (step : Step) (few : ℕ) → (step ≡ Learned) ⊎ (step ≡ Decided) → HasLearned start old.log → StepsTo want old new step → conflicts (gained start new.log) ≤ few → left few (conflicts (gained start new.log)) new.variables (length new.entries) < left few (conflicts (gained start old.log)) new.variables (length old.entries)
 step_left start want old new step few (inl e) h s most =
     let a : AddsLearned old.log new.log = subst (λ (x : Step). StepsTo want old new x) e s in
     let one : conflicts (gained start new.log) ≡ conflicts (gained start old.log) + 1 =
     all_conflicts (gained start new.log) (learned_more start old.log new.log h a).conflict ∙ ap length (gained_push start old.log new.log a.line h.longer a.same) ∙ length_push (gained start old.log) a.line ∙ ap (λ (n : ℕ). n + 1) (sym (all_conflicts (gained start old.log) h.conflict)) in
-    subst (λ (n : ℕ). left few n (places new.variables) (length new.entries) < left few (conflicts (gained start old.log)) (places new.variables) (length old.entries)) (sym one) (left_learned few (conflicts (gained start old.log)) (places new.variables) (length old.entries) (length new.entries) (omega arith))
+    subst (λ (n : ℕ). left few n new.variables (length new.entries) < left few (conflicts (gained start old.log)) new.variables (length old.entries)) (sym one) (left_learned few (conflicts (gained start old.log)) new.variables (length old.entries) (length new.entries) (omega arith))
 step_left start want old new step few (inr e) h s most =
     let d = subst (λ (x : Step). StepsTo want old new x) e s in
-    subst (λ (l : List LogLine). left few (conflicts (gained start l)) (places new.variables) (length new.entries) < left few (conflicts (gained start old.log)) (places new.variables) (length old.entries)) (sym d.0) (left_decided few (conflicts (gained start old.log)) (places new.variables) (length old.entries) (length new.entries) d.1 d.2)
+    subst (λ (l : List LogLine). left few (conflicts (gained start l)) new.variables (length new.entries) < left few (conflicts (gained start old.log)) new.variables (length old.entries)) (sym d.0) (left_decided few (conflicts (gained start old.log)) new.variables (length old.entries) (length new.entries) d.1 d.2)
 
 pub step_within : (start : List LogLine) (want : List Literal) (old new : Searched) (step : Step) (budget : Budget) → (step ≡ Learned) ⊎ (step ≡ Decided) → HasLearned start old.log → StepsTo want old new step → IsBelow budget (conflicts (gained start old.log)) → IsWithin budget (conflicts (gained start new.log))
 step_within start want old new step budget which h s below = by_budget budget below (at_most which s)

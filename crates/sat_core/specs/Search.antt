@@ -11,7 +11,7 @@ use Rattle.sat_log.specs.declared.line.LineKind.TheVariants.{Conflict, Final}
 use Rattle.sat_log.specs.declared.line.LogLine.{LogLine}
 use Rattle.sat_core.specs.Assignment.{IsSolution}
 use Rattle.sat_core.specs.Gained.{AreLearned}
-use Rattle.sat_trail.specs.Trail.{Trailed, literals, top, places}
+use Rattle.sat_trail.specs.Trail.{Trailed, literals, top}
 use Rattle.sat_trail.specs.Units.{IsTrail, MissesNoUnit}
 use Rattle.sat_analysis.specs.Analysis.{Analyzed, IsUnmarked, IsAsserted, AreNegationsOf}
 use Rattle.sat_trail.specs.declared.trail.Entry.{Entry}
@@ -79,7 +79,7 @@ pub record AddsFinal (want : List Literal) (old new : List LogLine) : Type 0 whe
 abbrev pub StepsTo : List Literal → Searched → Searched → Step → Type 0
 StepsTo want old new Learned = AddsLearned old.log new.log
 StepsTo want old new Decided = (new.log ≡ old.log) × (length old.entries < length new.entries) ×
-    (length new.entries ≤ places new.variables)
+    (length new.entries ≤ new.variables)
 StepsTo want old new (Yes bits) = (new.log ≡ old.log) × IsSolution new.variables new.log want bits
 StepsTo want old new (No id) = (id ≡ length new.log) × AddsFinal want old.log new.log
 

@@ -4,7 +4,7 @@ ghost use Rattle.std.specs.Prelude.{◌≡◌, ◌≢◌, ◌<◌, ◌≤◌, le
 ghost use Rattle.sat_log.specs.Clause.{Among};
 ghost use Rattle.sat_log.specs.Clauses.{clauses};
 ghost use Rattle.sat_log.specs.Checking.{IsUpTo};
-ghost use Rattle.sat_trail.specs.Trail.{literals, AreAllSet, places};
+ghost use Rattle.sat_trail.specs.Trail.{literals, AreAllSet};
 ghost use Rattle.sat_trail.specs.Units.{AreQuiet};
 ghost use Rattle.sat_core.specs.Search.{AreAmong, AskedFirst, IsDecided};
 
@@ -56,7 +56,7 @@ impl Search {
         ensures longer { result ≡ Decision.Made →
             length self.old.entries < length self.new.entries }
         ensures room { result ≡ Decision.Made →
-            length self.new.entries ≤ places self.new.variables }
+            length self.new.entries ≤ self.new.variables }
         ensures same { result ≢ Decision.Made → self.new.entries ≡ self.old.entries }
         ensures asked { AskedFirst want.now self.new.entries }
         ensures true_ { AreAmong (literals self.new.entries) (take asked.new want.now) }

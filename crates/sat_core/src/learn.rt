@@ -4,6 +4,7 @@ ghost use Rattle.std.specs.Prelude.{◌≡◌, ◌≢◌, ◌<◌, ◌≤◌, �
 ghost use Rattle.sat_log.specs.Literal.{Literal, negated};
 ghost use Rattle.sat_log.specs.Clause.{Among, HasDistinctVariables};
 ghost use Rattle.sat_log.specs.Accepted.{IsLog, Accepts};
+ghost use Rattle.sat_log.specs.Checking.{IsUpTo};
 ghost use Rattle.sat_log.specs.declared.line.LogLine.{LogLine};
 ghost use Rattle.sat_trail.specs.Trail.{literals, top};
 ghost use Rattle.sat_trail.specs.Units.{IsConflict};
@@ -43,11 +44,11 @@ fn append(log: &mut Log, line: LogLine) -> Result<u64, AllocError>
 ///
 /// `AllocError` where memory is refused; the log stays as it was.
 fn append_final(alloc: Global, log: &mut Log, analysis: &Analysis) -> Result<u64, AllocError>
-    requires { IsAnalysis log.old [] analysis.now }
+    requires { IsAnalysis log.old [] analysis.now.state }
     ensures ok { OnOk result (log.new ≡ log.old ++ record {
       kind = LineKind.Final;
-      lits = analysis.now.lits;
-      hints = analysis.now.hints;
+      lits = analysis.now.state.lits;
+      hints = analysis.now.state.hints;
     } ∷ []) }
     ensures id { IfOk result (λ id. id ≡ length log.new) }
     ensures err { OnErr result (log.new ≡ log.old) }
@@ -130,6 +131,7 @@ impl Search {
     pub(crate) fn refute_wanted(&mut self, wanted: SLit, want: &[SLit]) -> Result<u64, AllocError>
         requires log { IsLog self.old.log }
         requires distinct { HasDistinctVariables want.now }
+        requires exist { IsUpTo self.old.variables want.now }
         requires wanted { Among want.now wanted }
         requires false_ { Among (literals self.old.entries) (negated wanted) }
         requires asked { AskedFirst want.now self.old.entries }

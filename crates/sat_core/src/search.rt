@@ -68,7 +68,7 @@ impl Model for Search {
       looked = s.propagation.looked;
     } };
 
-    ghost invariant = { λ s. KeepsSearch s.log s.trail s.analysis ×
+    ghost invariant = { λ s. KeepsSearch s.log s.trail s.analysis.state ×
         KeepsAttached s.log s.trail s.propagation s.attached s.refuted };
 }
 

@@ -9,7 +9,7 @@ use Rattle.sat_log.specs.Clause.{Among, HasDistinctVariables}
 use Rattle.sat_log.specs.Clauses.{literal_value}
 use Rattle.sat_log.proofs.LiteralLemmas.{literal_by_parts}
 use Rattle.sat_trail.specs.Assignment.{assignment, AreTrue}
-use Rattle.sat_trail.specs.Trail.{entry_of, top, before, bottom}
+use Rattle.sat_trail.specs.Trail.{entry_of, top, before, bottom, IsPosition, HasPositions}
 use Rattle.sat_trail.proofs.Literals.{apart_not_among}
 use Rattle.sat_trail.specs.declared.trail.Entry.{Entry}
 
@@ -47,6 +47,12 @@ pub levels_of : (levels : List ℕ) (reasons : List (Option ℕ)) (true_ : List 
 levels_of levels reasons [] v level h = tt
 levels_of levels reasons (l ∷ true_) v level h =
     ((λ e. h ∙ ap (λ (w : ℕ). get_or levels w 0) (sym e)), levels_of levels reasons true_ v level h)
+
+-- and the positions of their variables
+pub positions_of : (levels : List ℕ) (reasons : List (Option ℕ)) (positions : List ℕ) (true_ : List Literal) (v position : ℕ) → position ≡ get_or positions v 0 → HasPositions positions true_ → IsPosition v position (map (entry_of levels reasons) true_)
+positions_of levels reasons positions [] v position h p = tt
+positions_of levels reasons positions (l ∷ true_) v position h p =
+    ((λ e. h ∙ ap (λ (w : ℕ). get_or positions w 0) (sym e) ∙ p.0 ∙ sym (length-map true_ (entry_of levels reasons))), positions_of levels reasons positions true_ v position h p.1)
 
 -- Earlier levels.
 

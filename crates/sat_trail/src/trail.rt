@@ -4,7 +4,7 @@
 ghost use Rattle.std.specs.Prelude.{◌≡◌, ◌+◌, ◌≤◌, ◌<◌, ◌^◌, ◌∷◌, ◌↔◌, [], length, None, Some, IsTrue, IfOk, IfSome, IfNone, OnOk, OnErr};
 ghost use Rattle.std.specs.List.{AllByRecursion};
 ghost use Rattle.sat_log.specs.Clause.{Among, IsUnset};
-ghost use Rattle.sat_trail.specs.Trail.{literals, top, before, bottom, places, AreAllSet};
+ghost use Rattle.sat_trail.specs.Trail.{literals, top, before, bottom, AreAllSet, IsPosition};
 ghost use Rattle.sat_trail.specs.Assignment.{assignment, AreTrue};
 
 use crate::order::Order;
@@ -32,6 +32,8 @@ pub struct Trail {
     /// By variables.
     levels: Vec<u64>,
     reasons: Vec<Option<u64>>,
+    /// How many literals were true when that of the variable became so.
+    positions: Vec<usize>,
     trail: Vec<SLit>,
     order: Order,
 }
@@ -48,7 +50,7 @@ impl Model for Trail {
     } };
 
     ghost invariant = { λ t. KeepsTrail t.variables t.truths.items t.levels.items t.reasons.items
-        (reverse t.trail.items) (vec_capacity t.trail) };
+        t.positions.items (reverse t.trail.items) (vec_capacity t.trail) };
 }
 
 impl Trail {
@@ -61,7 +63,8 @@ impl Trail {
             truths: vec![in alloc; false, false]?,
             levels: vec![in alloc; 0]?,
             reasons: vec![in alloc; None]?,
-            trail: Vec::with_capacity(alloc, 2)?,
+            positions: vec![in alloc; 0]?,
+            trail: Vec::new(alloc),
             order: Order::new(alloc)?,
         })
     }
@@ -77,7 +80,7 @@ impl Trail {
     /// How many literals are true.
     pub fn len(&self) -> usize
         ensures count { result ≡ length self.now.entries }
-        ensures room { result ≤ places self.now.variables }
+        ensures room { result ≤ self.now.variables }
     {
         self.trail.len()
     }
@@ -109,11 +112,20 @@ impl Trail {
         self.levels[var as usize]
     }
 
+    /// How many entries were made before that of a variable, if it has one.
+    pub fn position(&self, var: u64) -> usize
+        requires { var ≤ self.now.variables }
+        ensures { IsPosition var result self.now.entries }
+    {
+        self.positions[var as usize]
+    }
+
     /// The entry that was made when there were `i` others.
     pub fn entry(&self, i: usize) -> Entry
         requires { i < length self.now.entries }
         ensures entry { bottom (i + 1) self.now.entries ≡ result ∷ bottom i self.now.entries }
         ensures exists { result.literal.var ≤ self.now.variables }
+        ensures room { i < self.now.variables }
     {
         let literal = self.trail[i];
         let var = literal.var() as usize;
@@ -211,12 +223,15 @@ impl Trail {
         self.truths.reserve(2)?;
         self.levels.reserve(1)?;
         self.reasons.reserve(1)?;
-        self.trail.reserve(self.truths.len() + 2)?;
+        self.positions.reserve(1)?;
+        let spare = self.levels.len().saturating_sub(self.trail.len());
+        self.trail.reserve(spare)?;
         self.order.add()?;
         self.truths.push_reserved(false);
         self.truths.push_reserved(false);
         self.levels.push_reserved(0);
         self.reasons.push_reserved(None);
+        self.positions.push_reserved(0);
         self.variables += 1;
         Ok(())
     }
@@ -231,7 +246,7 @@ impl Trail {
           level = top self.old.entries + 1;
           reason = None;
         } ∷ self.old.entries }
-        ensures room { length self.new.entries ≤ places self.new.variables }
+        ensures room { length self.new.entries ≤ self.new.variables }
         ensures variables { self.new.variables ≡ self.old.variables }
     {
         self.push(literal, self.level() + 1, None);
@@ -246,7 +261,7 @@ impl Trail {
           level = top self.old.entries;
           reason = Some reason;
         } ∷ self.old.entries }
-        ensures room { length self.new.entries ≤ places self.new.variables }
+        ensures room { length self.new.entries ≤ self.new.variables }
         ensures variables { self.new.variables ≡ self.old.variables }
     {
         self.push(literal, self.level(), Some(reason));
@@ -271,13 +286,14 @@ impl Trail {
           level = level;
           reason = reason;
         } ∷ self.old.entries }
-        ensures room { length self.new.entries ≤ places self.new.variables }
+        ensures room { length self.new.entries ≤ self.new.variables }
         ensures variables { self.new.variables ≡ self.old.variables }
     {
         let var = literal.var() as usize;
         self.truths[literal.index()] = true;
         self.levels[var] = level;
         self.reasons[var] = reason;
+        self.positions[var] = self.trail.len();
         self.trail.push_reserved(literal);
     }
 

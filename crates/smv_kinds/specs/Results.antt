@@ -6,7 +6,6 @@ use Rattle.smv_kinds.specs.declared.sort.Sort.TheVariants.{Integer, Word}
 use Rattle.smv_kinds.specs.declared.typing.Typing.{Typing}
 use Rattle.smv_kinds.specs.declared.typing.NodeFault.{NodeFault}
 use Rattle.smv_kinds.specs.declared.typing.NodeFault.TheVariants as faults
-use Rattle.smv_kinds.specs.declared.result.TheConstants.{WIDEST}
 use Rattle.smv_kinds.specs.Intervals.{kept, of_word}
 
 -- one value, and a set
@@ -31,7 +30,7 @@ integers i = integers_of (kept i)
 
 -- a word may have this width
 abbrev pub is_width : ℕ → Bool
-is_width n = nat_le 1 n && nat_le n WIDEST
+is_width n = nat_le 1 n && nat_le n 64
 
 -- a word of this width, which has to be within its limits
 abbrev pub words : Bool → ℕ → Result Sort NodeFault

@@ -30,7 +30,7 @@ viewed_ok : {X Y F : Type 0} (f : X → Y) (out : Result X F) (y : Y) → viewed
 viewed_ok f (Ok x) y e = (x, refl, cc)
 viewed_ok f (Err s) y e = absurd (cc)
 
-viewed_err : {X Y F : Type 0} (f : X → Y) (out : Result X F) (s : F) → viewed f out ≡ Err s → out ≡ Err s
+pub viewed_err : {X Y F : Type 0} (f : X → Y) (out : Result X F) (s : F) → viewed f out ≡ Err s → out ≡ Err s
 viewed_err f (Ok x) s e = absurd (cc)
 viewed_err f (Err t) s e = cc
 

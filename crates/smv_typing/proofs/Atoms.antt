@@ -10,11 +10,10 @@ use Rattle.smv_kinds.specs.declared.typing.NodeFault.{NodeFault}
 use Rattle.smv_kinds.specs.Nodes.{constraint_fault}
 use Rattle.type_fault.specs.declared.fault.TypeFault.{TypeFault}
 use Rattle.type_fault.specs.First.{earlier, earliest}
-use Rattle.smv_typing.specs.declared.scope.TheConstants.{STATE}
+use Rattle.smv_typing.specs.Uses.{of_state, listed}
 use Rattle.smv_typing.specs.declared.standing.Standing.{Standing}
 use Rattle.smv_typing.specs.Judging.{Judgement, judged}
 use Rattle.smv_typing.specs.Firsts.{Kept, firsts}
-use Rattle.smv_typing.specs.Uses.{listed}
 use Rattle.smv_typing.specs.Formulas.{atom_place, own, within, head, own_faults, faults_within}
 use Rattle.smv_typing.specs.Found.{first_there, Finds}
 use Rattle.smv_typing.proofs.Firsts.{two_first, the_kept}
@@ -35,18 +34,18 @@ module _ (names : List (List ℕ) → Standing) (p : Option Place) where
   -- what is found in two lists of atoms
   pub finds_both : (ds es : List Tree) (q r : Option TypeFault × Option TypeFault) {f g : Option TypeFault} → Finds names p ds q → Finds names p es r → f ≡ first_there q.0 r.0 → g ≡ earlier q.1 r.1 → Finds names p (ds ++ es) (f, g)
   finds_both ds es q r h i e k =
-      let own_both = flat_map-append (λ d. own (atom_place p d) (judged names STATE d)) ds es in
-      let within_both = flat_map-append (λ d. within (judged names STATE d)) ds es in
+      let own_both = flat_map-append (λ d. own (atom_place p d) (judged names of_state d)) ds es in
+      let within_both = flat_map-append (λ d. within (judged names of_state d)) ds es in
       record {
         itself = e ∙ (ap (λ x. first_there x r.0) h.itself ∙ (ap (first_there (earliest (head (own_faults names p ds)))) i.itself ∙ (sym (head_both (own_faults names p ds) (own_faults names p es)) ∙ sym (ap (λ xs. earliest (head xs)) own_both))));
         inside = two_first (faults_within names ds) (faults_within names es) h.inside i.inside k ∙ sym (ap earliest within_both);
       }
 
-  one_own : (e : Tree) → own_faults names p (e ∷ []) ≡ own (atom_place p e) (judged names STATE e)
-  one_own e = append-nil (own (atom_place p e) (judged names STATE e))
+  one_own : (e : Tree) → own_faults names p (e ∷ []) ≡ own (atom_place p e) (judged names of_state e)
+  one_own e = append-nil (own (atom_place p e) (judged names of_state e))
 
-  one_within : (e : Tree) → faults_within names (e ∷ []) ≡ within (judged names STATE e)
-  one_within e = append-nil (within (judged names STATE e))
+  one_within : (e : Tree) → faults_within names (e ∷ []) ≡ within (judged names of_state e)
+  one_within e = append-nil (within (judged names of_state e))
 
   ok_itself : (q : Place) (x : Judgement Typing) (t : Typing) {k : Kept Typing} → k ≡ firsts x → k ≡ Ok t → earliest (listed q (constraint_fault t)) ≡ earliest (head (own q x))
   ok_itself q (Ok u) t h i = ap (λ v. earliest (listed q (constraint_fault v))) (ap (the_kept t) (sym i ∙ h)) ∙ sym (head_listed q (constraint_fault u))
@@ -67,14 +66,14 @@ module _ (names : List (List ℕ) → Standing) (p : Option Place) where
   err_inside (Err fs) h i = cc
 
   -- what is found in one atom
-  pub finds_ok : (e : Tree) (t : Typing) {k : Kept Typing} {f : Option TypeFault} → k ≡ firsts (judged names STATE e) → k ≡ Ok t → f ≡ earliest (listed (atom_place p e) (constraint_fault t)) → Finds names p (e ∷ []) (f, None)
+  pub finds_ok : (e : Tree) (t : Typing) {k : Kept Typing} {f : Option TypeFault} → k ≡ firsts (judged names of_state e) → k ≡ Ok t → f ≡ earliest (listed (atom_place p e) (constraint_fault t)) → Finds names p (e ∷ []) (f, None)
   finds_ok e t h i l = record {
-    itself = l ∙ (ok_itself (atom_place p e) (judged names STATE e) t h i ∙ sym (ap (λ xs. earliest (head xs)) (one_own e)));
-    inside = ok_inside (judged names STATE e) t h i ∙ sym (ap earliest (one_within e));
+    itself = l ∙ (ok_itself (atom_place p e) (judged names of_state e) t h i ∙ sym (ap (λ xs. earliest (head xs)) (one_own e)));
+    inside = ok_inside (judged names of_state e) t h i ∙ sym (ap earliest (one_within e));
   }
 
-  pub finds_err : (e : Tree) {k : Kept Typing} {f : Option TypeFault} → k ≡ firsts (judged names STATE e) → k ≡ Err f → Finds names p (e ∷ []) (None, f)
+  pub finds_err : (e : Tree) {k : Kept Typing} {f : Option TypeFault} → k ≡ firsts (judged names of_state e) → k ≡ Err f → Finds names p (e ∷ []) (None, f)
   finds_err e h i = record {
-    itself = err_itself (atom_place p e) (judged names STATE e) h i ∙ sym (ap (λ xs. earliest (head xs)) (one_own e));
-    inside = err_inside (judged names STATE e) h i ∙ sym (ap earliest (one_within e));
+    itself = err_itself (atom_place p e) (judged names of_state e) h i ∙ sym (ap (λ xs. earliest (head xs)) (one_own e));
+    inside = err_inside (judged names of_state e) h i ∙ sym (ap earliest (one_within e));
   }

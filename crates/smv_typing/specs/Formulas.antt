@@ -6,10 +6,9 @@ use Rattle.smv_tree.specs.Models.{Claim, atom, no, after, always, some_time, bot
 use Rattle.smv_kinds.specs.declared.typing.Typing.{Typing}
 use Rattle.smv_kinds.specs.Nodes.{constraint_fault}
 use Rattle.type_fault.specs.declared.fault.TypeFault.{TypeFault}
-use Rattle.smv_typing.specs.declared.scope.TheConstants.{STATE}
 use Rattle.smv_typing.specs.declared.standing.Standing.{Standing}
 use Rattle.smv_typing.specs.Judging.{Judgement, judged}
-use Rattle.smv_typing.specs.Uses.{listed, place_in}
+use Rattle.smv_typing.specs.Uses.{listed, of_state, place_in}
 
 -- the atoms of a formula, in the order of the text
 unfoldable pub atoms : Claim → List Tree
@@ -37,10 +36,10 @@ within (Err fs) = fs
 
 -- those of several
 abbrev pub own_faults : (List (List ℕ) → Standing) → Option Place → List Tree → List TypeFault
-own_faults names p es = flat_map (λ e. own (atom_place p e) (judged names STATE e)) es
+own_faults names p es = flat_map (λ e. own (atom_place p e) (judged names of_state e)) es
 
 abbrev pub faults_within : (List (List ℕ) → Standing) → List Tree → List TypeFault
-faults_within names es = flat_map (λ e. within (judged names STATE e)) es
+faults_within names es = flat_map (λ e. within (judged names of_state e)) es
 
 -- of a list what it begins with
 abbrev pub head : List TypeFault → List TypeFault

@@ -16,7 +16,6 @@ use Rattle.smv_kinds.specs.Nodes.{constraint_fault, assignment_fault, body_fault
 use Rattle.type_fault.specs.declared.fault.TypeFault.{TypeFault}
 use Rattle.type_fault.specs.declared.fault.TypeFault.TheVariants as faults
 use Rattle.smv_typing.specs.declared.scope.Scope.{Scope}
-use Rattle.smv_typing.specs.declared.scope.TheConstants.{STATE, DEFINITION, STEP}
 use Rattle.smv_typing.specs.declared.standing.Standing.{Standing}
 use Rattle.smv_typing.specs.declared.target.Target.{Target}
 use Rattle.smv_typing.specs.Judging.{Judgement, fault_at, judged}
@@ -49,14 +48,24 @@ place_in (widen p resize a n) = p
 place_in (const p signed v n) = p
 place_in (count p es) = p
 
+-- what may stand where one state is spoken of, in a define or an actual, and where a step is spoken of
+abbrev pub of_state : Scope
+of_state = record { next = false; inputs = false }
+
+abbrev pub of_definition : Scope
+of_definition = record { next = false; inputs = true }
+
+abbrev pub of_step : Scope
+of_step = record { next = true; inputs = true }
+
 -- what may stand in a constraint, and on the right side of an assignment
 abbrev pub constraint_scope : Section → Scope
-constraint_scope section.Trans = STEP
-constraint_scope _ = STATE
+constraint_scope section.Trans = of_step
+constraint_scope _ = of_state
 
 abbrev pub assignment_scope : Moment → Scope
-assignment_scope moment.Next = STEP
-assignment_scope _ = STATE
+assignment_scope moment.Next = of_step
+assignment_scope _ = of_state
 
 -- a constraint, at the place of its section word: one boolean
 unfoldable pub constraint_faults : (List (List ℕ) → Standing) → Section → Place → Tree → List TypeFault
@@ -64,7 +73,7 @@ constraint_faults names s p e = used p constraint_fault (judged names (constrain
 
 -- the body of a define: no instance
 unfoldable pub body_faults : (List (List ℕ) → Standing) → Tree → List TypeFault
-body_faults names e = used (place_in e) body_fault (judged names DEFINITION e)
+body_faults names e = used (place_in e) body_fault (judged names of_definition e)
 
 -- an actual parameter: no instance, unless it is a path alone
 abbrev pub actual_fault : Tree → Typing → Option NodeFault
@@ -72,7 +81,7 @@ actual_fault (name p path) t = None
 actual_fault _ t = body_fault t
 
 unfoldable pub actual_faults : (List (List ℕ) → Standing) → Tree → List TypeFault
-actual_faults names e = used (place_in e) (actual_fault e) (judged names DEFINITION e)
+actual_faults names e = used (place_in e) (actual_fault e) (judged names of_definition e)
 
 -- two assignments of one variable exclude each other: of one moment, or one of them holds at each
 abbrev pub excludes : Moment → Moment → Bool

@@ -13,7 +13,7 @@ pub invariant_of-self : goal.invariant_of-self
 invariant_of-self c =
     let s = c.self.inside in
     let k = c.self.invariant in (
-      keeps_implied s.log s.trail c.propagate.new.trail s.analysis k.0 c.propagate.ensures.trail c.propagate.ensures.implied c.propagate.ensures.variables,
+      keeps_implied s.log s.trail c.propagate.new.trail s.analysis.state k.0 c.propagate.ensures.trail c.propagate.ensures.implied c.propagate.ensures.variables,
       attached_propagated s.log s.trail c.propagate.new.trail s.propagation c.propagate.new.self s.attached s.refuted c.propagate.ensures.implied c.propagate.ensures.lines c.propagate.ensures.ready k.1,
     )
 

@@ -6,7 +6,6 @@ use Rattle.sat_log.specs.Checking.{AreUpTo}
 use Rattle.sat_core.specs.Gained.{gained, conflicts, HasNoOriginal}
 use Rattle.sat_core.specs.Gains.{found, spent, stopped, Gains}
 use Rattle.sat_core.specs.Verdicts.{IsBelow, IsWithin}
-use Rattle.sat_trail.specs.Trail.{places}
 use Rattle.sat_core.specs.Search.{AddsFinal, StepsTo}
 use Rattle.sat_core.specs.declared.search.Step.{Step}
 use Rattle.sat_core.proofs.Runs.{HasLearned, learned_none, within_none, left, all_conflicts, gained_length, none_original, refuted_by, final_no_original, goes_on, step_gains, step_left, step_within, gains_learned, has_no_final, gains_final, longer_push, final_learned, outcome_err, is_spent}
@@ -119,7 +118,7 @@ loop-budget-smaller c =
     let same : new.variables ≡ c.args.self.now.variables = c.step-step.ensures.variables ∙ c.loop-budget.invariant.variables in
     let few = c.learned_lines_are_few.ensures new.variables start new.log c.lines-lines.ensures.log c.lines-lines.ensures.exist h.longer h.learned_is in
     let less = step_left start c.args.want.now c.loop-budget.self new c.in_ok-step.field-0 (3 ^ new.variables) c.in-Learned.is c.loop-budget.invariant.gains c.in_ok-step.ensures.step (omega (arith, few)) in
-    subst (λ n. left (3 ^ n) (conflicts (gained start new.log)) (places n) (length new.entries) < left (3 ^ n) (conflicts (gained start c.loop-budget.self.log)) (places n) (length c.loop-budget.self.entries)) same less
+    subst (λ n. left (3 ^ n) (conflicts (gained start new.log)) n (length new.entries) < left (3 ^ n) (conflicts (gained start c.loop-budget.self.log)) n (length c.loop-budget.self.entries)) same less
 
 -- the log after the call that attaches is the one before the question
 start_is : (c : After-attach) → c.attach.new.self.log ≡ c.args.self.now.log

@@ -3,7 +3,6 @@ use Rattle.sat_log.specs.Accepted.{IsLog}
 use Rattle.sat_log.specs.Checking.{AreUpTo}
 use Rattle.sat_core.specs.Gained.{gained, conflicts}
 use Rattle.sat_core.specs.Verdicts.{IsWithin}
-use Rattle.sat_trail.specs.Trail.{places}
 use Rattle.sat_core.specs.Search.{AskedFirst, MayStep}
 use Rattle.sat_core.proofs.Runs.{HasLearned, left}
 use Rattle.sat_core.proofs.search.Search.run.Given as goal
@@ -22,4 +21,4 @@ invariant-loop-budget l = record {
 
 abbrev pub decreases-loop-budget : goal.decreases-loop-budget
 decreases-loop-budget l =
-    left (3 ^ l.fn.self.variables) (conflicts (gained l.fn.self.log l.self.log)) (places l.fn.self.variables) (length l.self.entries)
+    left (3 ^ l.fn.self.variables) (conflicts (gained l.fn.self.log l.self.log)) l.fn.self.variables (length l.self.entries)

@@ -3,6 +3,7 @@ use Rattle.std.specs.Prelude.{None}
 use Rattle.std.proofs.lemmas.List.{get_or_default, length-reverse, length-map}
 use Rattle.sat_log.specs.Literal.{Literal}
 use Rattle.sat_trail.specs.Trail.{Trailed, bottom, entry_of}
+use Rattle.sat_trail.proofs.Tables.{true_few}
 use Rattle.sat_trail.proofs.Trails.{bottom_more, All-reverse_at}
 use Rattle.sat_trail.proofs.trail.Trail.entry.Goals as goal
 use Rattle.sat_trail.proofs.trail.Trail.entry.Goals.{After-var-var}
@@ -49,3 +50,11 @@ returns-clause-entry c =
     c.index-2.ensures ∙ get_or_default t.reasons.items c.var-var.result c.index-2.result.now None (omega arith) ∙ ap (λ v. get_or t.reasons.items v None) c.var-var.ensures.value in
     subst (λ (v : Trailed). bottom (c.args.i + 1) v.entries ≡ record { literal = l; level = c.index.result.now; reason = c.index-2.result.now } ∷ bottom c.args.i v.entries) c.self.view_is
     (rw (level, reason) (bottom_more (entry_of t.levels.items t.reasons.items) t.trail.items c.args.i l i_in c.index-literal.ensures))
+
+pub returns-clause-room : goal.returns-clause-room
+returns-clause-room c =
+    let t = c.self.inside in
+    let count : length c.args.self.now.entries ≡ length t.trail.items =
+    ap (λ (v : Trailed). length v.entries) (sym c.self.view_is) ∙ length-map (reverse t.trail.items) (entry_of t.levels.items t.reasons.items) ∙ length-reverse t.trail.items in
+    let few = true_few t.variables (reverse t.trail.items) c.self.invariant.distinct c.self.invariant.within in
+    subst (λ (v : Trailed). c.args.i < v.variables) c.self.view_is (omega (arith, c.requires, count, few, length-reverse t.trail.items))

@@ -11,5 +11,5 @@ invariant_of-self c =
     let t = c.self.inside in
     let l = c.in-Some.literal in
     let items : reverse t.trail.items ≡ l ∷ reverse c.pop.new.self.items = ap reverse c.in-Some.ensures.items ∙ reverse-append c.pop.new.self.items (l ∷ []) in
-    let keeps : KeepsTrail t.variables t.truths.items t.levels.items t.reasons.items (l ∷ reverse c.pop.new.self.items) (vec_capacity t.trail) = subst (λ (s : List Literal). KeepsTrail t.variables t.truths.items t.levels.items t.reasons.items s (vec_capacity t.trail)) items c.self.invariant in
-    rw (c.pop.ensures.capacity, c.index.ensures.value) (tables_pop t.variables t.truths.items t.levels.items t.reasons.items (reverse c.pop.new.self.items) (vec_capacity t.trail) l keeps)
+    let keeps : KeepsTrail t.variables t.truths.items t.levels.items t.reasons.items t.positions.items (l ∷ reverse c.pop.new.self.items) (vec_capacity t.trail) = subst (λ (s : List Literal). KeepsTrail t.variables t.truths.items t.levels.items t.reasons.items t.positions.items s (vec_capacity t.trail)) items c.self.invariant in
+    rw (c.pop.ensures.capacity, c.index.ensures.value) (tables_pop t.variables t.truths.items t.levels.items t.reasons.items t.positions.items (reverse c.pop.new.self.items) (vec_capacity t.trail) l keeps)
