@@ -29,7 +29,12 @@ macro_rules! number {
         number!($word, $least, $most, excludes 0)
     };
     ($word:ident, $least:expr, $most:expr, excludes $others:expr) => {
-        Opt { word: OptWord::$word, takes: Takes::Number($least, $most), excludes: $others, required: false }
+        Opt {
+            word: OptWord::$word,
+            takes: Takes::Number($least, $most),
+            excludes: $others,
+            required: false,
+        }
     };
 }
 
@@ -293,47 +298,18 @@ pub const RESET: Table<0> = FLATTEN_HIERARCHY;
 /// `quit`
 pub const QUIT: Table<0> = FLATTEN_HIERARCHY;
 
-/// The tables that have options; of equal ones the first stands here.
-#[derive(Drop)]
-pub struct OptionTables {
-    pub read_model: Table<1>,
-    pub check_ltlspec_bmc: Table<5>,
-    pub bmc_pick_state: Table<2>,
-    pub bmc_simulate: Table<5>,
-    pub print_current_state: Table<1>,
-    pub show_traces: Table<4>,
-    pub read_text_trace: Table<2>,
-    pub execute_text_trace: Table<1>,
-    pub execute_traces: Table<2>,
-    pub source: Table<3>,
-    pub echo: Table<3>,
-}
-
-/// In no table do two options have one word, and none has more than 32 options.
-pub fn words_differ() -> OptionTables
-    ensures read_model { IsTrue (is_sound result.read_model) }
-    ensures check_ltlspec_bmc { IsTrue (is_sound result.check_ltlspec_bmc) }
-    ensures bmc_pick_state { IsTrue (is_sound result.bmc_pick_state) }
-    ensures bmc_simulate { IsTrue (is_sound result.bmc_simulate) }
-    ensures print_current_state { IsTrue (is_sound result.print_current_state) }
-    ensures show_traces { IsTrue (is_sound result.show_traces) }
-    ensures read_text_trace { IsTrue (is_sound result.read_text_trace) }
-    ensures execute_text_trace { IsTrue (is_sound result.execute_text_trace) }
-    ensures execute_traces { IsTrue (is_sound result.execute_traces) }
-    ensures source { IsTrue (is_sound result.source) }
-    ensures echo { IsTrue (is_sound result.echo) }
-{
-    OptionTables {
-        read_model: READ_MODEL,
-        check_ltlspec_bmc: CHECK_LTLSPEC_BMC,
-        bmc_pick_state: BMC_PICK_STATE,
-        bmc_simulate: BMC_SIMULATE,
-        print_current_state: PRINT_CURRENT_STATE,
-        show_traces: SHOW_TRACES,
-        read_text_trace: READ_TEXT_TRACE,
-        execute_text_trace: EXECUTE_TEXT_TRACE,
-        execute_traces: EXECUTE_TRACES,
-        source: SOURCE,
-        echo: ECHO,
-    }
-}
+/// In no table do two options have one word, and none has more than 32 options. The tables that have
+/// options are named; of equal ones the first.
+pub fn words_differ()
+    ensures read_model { IsTrue (is_sound READ_MODEL) }
+    ensures check_ltlspec_bmc { IsTrue (is_sound CHECK_LTLSPEC_BMC) }
+    ensures bmc_pick_state { IsTrue (is_sound BMC_PICK_STATE) }
+    ensures bmc_simulate { IsTrue (is_sound BMC_SIMULATE) }
+    ensures print_current_state { IsTrue (is_sound PRINT_CURRENT_STATE) }
+    ensures show_traces { IsTrue (is_sound SHOW_TRACES) }
+    ensures read_text_trace { IsTrue (is_sound READ_TEXT_TRACE) }
+    ensures execute_text_trace { IsTrue (is_sound EXECUTE_TEXT_TRACE) }
+    ensures execute_traces { IsTrue (is_sound EXECUTE_TRACES) }
+    ensures source { IsTrue (is_sound SOURCE) }
+    ensures echo { IsTrue (is_sound ECHO) }
+{}

@@ -18,7 +18,8 @@ pub fn read_next(
     rest: &[Text],
 ) -> Result<usize, OptFault>
     requires { length given.old.values ≡ length opts.now }
-    ensures next { Goes (next opts.now most raw given.old (word.now ∷ rest.now)) given.new rest.now result }
+    ensures next { Goes (next opts.now most raw given.old (word.now ∷ rest.now))
+        given.new rest.now result }
     ensures places { OnOk result (length given.new.values ≡ length opts.now) }
 {
     if raw && given.rest.len() > 0 {
@@ -37,7 +38,9 @@ fn read_open(
     rest: &[Text],
 ) -> Result<usize, OptFault>
     requires { length given.old.values ≡ length opts.now }
-    ensures next { Goes (next_open opts.now most given.old word.now rest.now (place_of opts.now word.now)) given.new rest.now result }
+    ensures next { Goes
+        (next_open opts.now most given.old word.now rest.now (place_of opts.now word.now))
+        given.new rest.now result }
     ensures places { OnOk result (length given.new.values ≡ length opts.now) }
 {
     match place_of(opts, word.as_slice()) {
@@ -80,7 +83,8 @@ fn read_option(
 ) -> Result<usize, OptFault>
     requires within { place < length opts.now }
     requires places { length given.old.values ≡ length opts.now }
-    ensures next { Goes (next_option opts.now given.old place word.now rest.now) given.new rest.now result }
+    ensures next { Goes (next_option opts.now given.old place word.now rest.now)
+        given.new rest.now result }
     ensures places { OnOk result (length given.new.values ≡ length opts.now) }
 {
     if is_given(given, place) {
@@ -99,7 +103,8 @@ fn read_argument(
     rest: &[Text],
 ) -> Result<usize, OptFault>
     requires { place < length given.old.values }
-    ensures next { Goes (with_argument given.old place word.now rest.now takes) given.new rest.now result }
+    ensures next { Goes (with_argument given.old place word.now rest.now takes)
+        given.new rest.now result }
     ensures places { OnOk result (length given.new.values ≡ length given.old.values) }
 {
     if let Takes::Nothing = takes {

@@ -26,7 +26,8 @@ pub fn read_options<const N: usize>(
     words: &Words,
 ) -> Result<Given, OptFault>
     ensures right { Options table.now words.now result ⊎ (result ≡ Err (NoMemory alloc_error)) }
-    ensures only { (answer : Result Given OptFault) → Options table.now words.now answer → Answers answer result }
+    ensures only { (answer : Result Given OptFault) → Options table.now words.now answer →
+        Answers answer result }
     ensures fit { IfOk result (λ given. AllFit table.now.opts given.values) }
 {
     let opts = table.opts.as_slice();
@@ -50,8 +51,10 @@ fn read_words(
     raw: bool,
     words: &[Text],
 ) -> Result<Given, OptFault>
-    ensures right { Reads opts.now most raw (nothing (length opts.now)) words.now result ⊎ (result ≡ Err (NoMemory alloc_error)) }
-    ensures only { (end : Result Given OptFault) → Reads opts.now most raw (nothing (length opts.now)) words.now end → Answers end result }
+    ensures right { Reads opts.now most raw (nothing (length opts.now)) words.now result
+        ⊎ (result ≡ Err (NoMemory alloc_error)) }
+    ensures only { (end : Result Given OptFault) →
+        Reads opts.now most raw (nothing (length opts.now)) words.now end → Answers end result }
 {
     let mut given = Given {
         values: OptTexts::none(alloc, opts.len())?,

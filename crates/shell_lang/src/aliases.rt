@@ -51,7 +51,9 @@ impl Aliases {
     pub fn put(&mut self, name: &Text, words: &Words) -> Result<(), LangFault>
         ensures ok { OnOk result (self.new ≡ with_name self.old name.now words.now) }
         ensures err { OnErr result (self.new ≡ self.old) }
-        ensures full { RefusedWhere (is_none (at_name self.old name.now) && nat_le 1000 (length self.old)) LangFault.TooManyAliases result }
+        ensures full { RefusedWhere
+            (is_none (at_name self.old name.now) && nat_le 1000 (length self.old))
+            LangFault.TooManyAliases result }
     {
         if self.words.get(name).is_none() && self.words.len() >= MOST {
             return Err(LangFault::TooManyAliases);
@@ -73,7 +75,8 @@ impl Aliases {
     pub fn remove(&mut self, name: &Text) -> Result<(), LangFault>
         ensures ok { OnOk result (self.new ≡ without_name self.old name.now) }
         ensures err { OnErr result (self.new ≡ self.old) }
-        ensures unknown { RefusedWhere (is_none (at_name self.old name.now)) (LangFault.NoName name.now) result }
+        ensures unknown { RefusedWhere (is_none (at_name self.old name.now))
+            (LangFault.NoName name.now) result }
     {
         if self.words.remove(name).is_none() {
             return Err(LangFault::NoName(name.copy(self.alloc)?));

@@ -33,7 +33,8 @@ impl Builder {
 
     // Reads a mark on.
     pub fn add(&mut self, mark: Mark) -> Result<(), AllocError>
-        ensures { OnOk result ((marks : List Mark) → with_marks self.new marks ≡ with_marks self.old (mark ∷ marks)) }
+        ensures { OnOk result ((marks : List Mark) →
+            with_marks self.new marks ≡ with_marks self.old (mark ∷ marks)) }
     {
         match mark {
             Mark::Part(piece) => {
@@ -62,7 +63,8 @@ impl Builder {
     // Ends the word, if there is one.
     fn end_word(&mut self) -> Result<(), AllocError>
         ensures commands { OnOk result (self.new.commands.items ≡ self.old.commands.items) }
-        ensures words { OnOk result (self.new.words.items ≡ self.old.words.items ++ kept self.old.pieces.items) }
+        ensures words { OnOk result
+            (self.new.words.items ≡ self.old.words.items ++ kept self.old.pieces.items) }
         ensures pieces { OnOk result (self.new.pieces.items ≡ []) }
     {
         if !self.pieces.is_empty() {
@@ -74,7 +76,8 @@ impl Builder {
 
     // Ends the word and the command, if there are any.
     fn end_command(&mut self) -> Result<(), AllocError>
-        ensures commands { OnOk result (self.new.commands.items ≡ self.old.commands.items ++ kept (self.old.words.items ++ kept self.old.pieces.items)) }
+        ensures commands { OnOk result (self.new.commands.items ≡ self.old.commands.items
+            ++ kept (self.old.words.items ++ kept self.old.pieces.items)) }
         ensures words { OnOk result (self.new.words.items ≡ []) }
         ensures pieces { OnOk result (self.new.pieces.items ≡ []) }
     {

@@ -47,7 +47,8 @@ impl Mark {
     fn quoted(alloc: Global, rest: &[u8]) -> Result<(Mark, usize), LangFault>
         ensures { MatchResult result
             (λ taken. Takes (start_quoted rest.now) rest.now taken)
-            (λ fault. ((fault ≡ Quote) × (start_quoted rest.now ≡ unclosed)) ⊎ (fault ≡ NoMemory alloc_error)) }
+            (λ fault. ((fault ≡ Quote) × (start_quoted rest.now ≡ unclosed))
+            ⊎ (fault ≡ NoMemory alloc_error)) }
     {
         let len = Run::Quoted.len(rest);
         if len == rest.len() {

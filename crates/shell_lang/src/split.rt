@@ -20,7 +20,8 @@ use std::alloc::Global;
 /// `Quote` where a quote is not closed, `NoMemory` where memory is refused.
 pub fn split_line(alloc: Global, line: &Text) -> Result<Commands, LangFault>
     ensures right { Splits line.now result ⊎ (result ≡ Err (NoMemory alloc_error)) }
-    ensures only { (answer : Result (List (List (List Piece))) LangFault) → Splits line.now answer → Answers answer result }
+    ensures only { (answer : Result (List (List (List Piece))) LangFault) →
+        Splits line.now answer → Answers answer result }
 {
     let bytes = line.as_slice();
     let mut builder = Builder::new(alloc);

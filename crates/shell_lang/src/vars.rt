@@ -29,7 +29,8 @@ impl Model for Vars {
 
     ghost view = { λ v. v.values.entries };
 
-    ghost invariant = { λ v. (v.quits ≡ codes "on_failure_script_quits") × (v.input ≡ codes "input_file") × AreSettled v.values.entries };
+    ghost invariant = { λ v. (v.quits ≡ codes "on_failure_script_quits")
+        × (v.input ≡ codes "input_file") × AreSettled v.values.entries };
 }
 
 impl Vars {
@@ -65,7 +66,8 @@ impl Vars {
     pub fn set(&mut self, name: &Text, v: &Text) -> Result<(), LangFault>
         ensures ok { OnOk result (self.new ≡ with_name self.old name.now v.now) }
         ensures err { OnErr result (self.new ≡ self.old) }
-        ensures illegal { RefusedWhere (is_illegal name.now v.now) (LangFault.BadValue name.now) result }
+        ensures illegal { RefusedWhere (is_illegal name.now v.now)
+            (LangFault.BadValue name.now) result }
     {
         if is_illegal(name.as_slice(), v.as_slice()) {
             return Err(LangFault::BadValue(name.copy(self.alloc)?));
@@ -83,7 +85,8 @@ impl Vars {
     pub fn unset(&mut self, name: &Text) -> Result<(), LangFault>
         ensures ok { OnOk result (self.new ≡ taken_back self.old name.now) }
         ensures err { OnErr result (self.new ≡ self.old) }
-        ensures unknown { RefusedWhere (is_unknown self.old name.now) (LangFault.NoName name.now) result }
+        ensures unknown { RefusedWhere (is_unknown self.old name.now)
+            (LangFault.NoName name.now) result }
     {
         match Known::find(name.as_slice()) {
             Some(known) => match known.default() {
@@ -140,8 +143,10 @@ fn put(
     name: &[u8],
     value: &[u8],
 ) -> Result<(), AllocError>
-    ensures ok { OnOk result (values.new.entries ≡ with_name values.old.entries name.now value.now) }
-    ensures changes { OnOk result (Changes values.old.entries values.new.entries name.now (Some value.now)) }
+    ensures ok { OnOk result
+        (values.new.entries ≡ with_name values.old.entries name.now value.now) }
+    ensures changes { OnOk result
+        (Changes values.old.entries values.new.entries name.now (Some value.now)) }
     ensures err { OnErr result (values.new.entries ≡ values.old.entries) }
 {
     let value = Text::from_slice(alloc, value)?;

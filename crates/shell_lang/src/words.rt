@@ -24,8 +24,10 @@ pub fn expand(
     vars: &Vars,
     aliases: &Aliases,
 ) -> Result<Words, LangFault>
-    ensures right { Expands vars.now aliases.now command.now result ⊎ (result ≡ Err (NoMemory alloc_error)) }
-    ensures only { (answer : Result (List (List ℕ)) LangFault) → Expands vars.now aliases.now command.now answer → Answers answer result }
+    ensures right { Expands vars.now aliases.now command.now result
+        ⊎ (result ≡ Err (NoMemory alloc_error)) }
+    ensures only { (answer : Result (List (List ℕ)) LangFault) →
+        Expands vars.now aliases.now command.now answer → Answers answer result }
 {
     let mut words = fill(alloc, command, vars)?.into_vec();
     words.reverse();
@@ -77,8 +79,10 @@ fn add_piece(alloc: Global, text: &mut Text, piece: &Piece, vars: &Vars) -> Resu
 
 // Replaces aliases at the head. The words stand the last one first, before and after.
 fn unfold(alloc: Global, words: Vec<Text>, aliases: &Aliases) -> Result<Vec<Text>, AllocError>
-    ensures right { IfOk result (λ last. Unfolds aliases.now [] (reverse words.items) (reverse last.items)) }
-    ensures only { IfOk result (λ last. (other : List (List ℕ)) → Unfolds aliases.now [] (reverse words.items) other → other ≡ reverse last.items) }
+    ensures right { IfOk result (λ last.
+        Unfolds aliases.now [] (reverse words.items) (reverse last.items)) }
+    ensures only { IfOk result (λ last. (other : List (List ℕ)) →
+        Unfolds aliases.now [] (reverse words.items) other → other ≡ reverse last.items) }
 {
     let mut words = words;
     let mut used = BTreeSet::new(alloc);
@@ -99,7 +103,8 @@ fn unfold(alloc: Global, words: Vec<Text>, aliases: &Aliases) -> Result<Vec<Text
 
 // The words that a name stands for, if it is an alias that was not replaced before.
 fn body_of<'a>(aliases: &'a Aliases, used: &BTreeSet<Text>, name: &Text) -> Option<&'a Words>
-    ensures { option_copied result ≡ body_of aliases.now (contains (slice_cmp nat_cmp) used.now name.now) name.now }
+    ensures { option_copied result
+        ≡ body_of aliases.now (contains (slice_cmp nat_cmp) used.now name.now) name.now }
 {
     if used.contains(name) {
         None
