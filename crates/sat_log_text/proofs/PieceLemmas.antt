@@ -2,7 +2,9 @@
 use Rattle.std.proofs.Common.{◌≡◌, ◌≢◌, ℕ, zero, suc, ◌+◌, ◌<◌, ◌≤◌, Bool, true, false, cond, eqb, List, [], ◌∷◌, ◌++◌, length, take, drop, refl, ap, sym, ◌∙◌, add-one, append_assoc, arith}
 use Rattle.std.proofs.lemmas.List.{append-nil}
 use Rattle.std.specs.Prelude.{Option, Some, None, Result, Ok, Err}
-use Rattle.sat_log_text.specs.Page.{in_first, words, words_after, lines}
+use Rattle.text_lines.specs.Lines.{lines_of, onto_first}
+use Rattle.sat_log_text.specs.Answers.{words_after}
+use Rattle.sat_log_text.specs.Page.{words}
 use Rattle.sat_log_text.specs.Reading.{piece_len, items, with_item, item_then, same_bytes}
 use Rattle.sat_log_text.specs.LogText.{zero_word}
 use Rattle.sat_log_text.specs.declared.fault.LogFault.{LogFault}
@@ -13,21 +15,21 @@ pub words_cut : (bytes : List ℕ) → words bytes ≡ take (piece_len 32 bytes)
 words_cut [] = refl
 words_cut (b ∷ bytes) = by_first (eqb b 32) (words_cut bytes)
   where
-    by_first : (blank : Bool) → words bytes ≡ take (piece_len 32 bytes) bytes ∷ words_after (drop (piece_len 32 bytes) bytes) → cond blank ([] ∷ words bytes) (in_first b (words bytes)) ≡ take (cond blank 0 (piece_len 32 bytes + 1)) (b ∷ bytes) ∷ words_after (drop (cond blank 0 (piece_len 32 bytes + 1)) (b ∷ bytes))
+    by_first : (blank : Bool) → words bytes ≡ take (piece_len 32 bytes) bytes ∷ words_after (drop (piece_len 32 bytes) bytes) → cond blank ([] ∷ words bytes) (onto_first b (words bytes)) ≡ take (cond blank 0 (piece_len 32 bytes + 1)) (b ∷ bytes) ∷ words_after (drop (cond blank 0 (piece_len 32 bytes + 1)) (b ∷ bytes))
     by_first true rest = refl
     by_first false rest = rw (add-one, rest) refl
 
 -- the first line of a text, and the others
-pub lines_cut : (bytes : List ℕ) → bytes ≢ [] → lines bytes ≡ take (piece_len 10 bytes) bytes ∷ lines (drop (suc (piece_len 10 bytes)) bytes)
+pub lines_cut : (bytes : List ℕ) → bytes ≢ [] → lines_of bytes ≡ take (piece_len 10 bytes) bytes ∷ lines_of (drop (suc (piece_len 10 bytes)) bytes)
 lines_cut [] some = absurd (some refl)
 lines_cut (b ∷ []) some = by_first (eqb b 10)
   where
-    by_first : (feed : Bool) → cond feed ([] ∷ []) ((b ∷ []) ∷ []) ≡ take (cond feed 0 1) (b ∷ []) ∷ lines (drop (suc (cond feed 0 1)) (b ∷ []))
+    by_first : (feed : Bool) → cond feed ([] ∷ []) ((b ∷ []) ∷ []) ≡ take (cond feed 0 1) (b ∷ []) ∷ lines_of (drop (suc (cond feed 0 1)) (b ∷ []))
     by_first true = refl
     by_first false = refl
 lines_cut (b ∷ c ∷ bytes) some = by_first (eqb b 10) (lines_cut (c ∷ bytes) (λ e. cc))
   where
-    by_first : (feed : Bool) → lines (c ∷ bytes) ≡ take (piece_len 10 (c ∷ bytes)) (c ∷ bytes) ∷ lines (drop (suc (piece_len 10 (c ∷ bytes))) (c ∷ bytes)) → cond feed ([] ∷ lines (c ∷ bytes)) (in_first b (lines (c ∷ bytes))) ≡ take (cond feed 0 (piece_len 10 (c ∷ bytes) + 1)) (b ∷ c ∷ bytes) ∷ lines (drop (suc (cond feed 0 (piece_len 10 (c ∷ bytes) + 1))) (b ∷ c ∷ bytes))
+    by_first : (feed : Bool) → lines_of (c ∷ bytes) ≡ take (piece_len 10 (c ∷ bytes)) (c ∷ bytes) ∷ lines_of (drop (suc (piece_len 10 (c ∷ bytes))) (c ∷ bytes)) → cond feed ([] ∷ lines_of (c ∷ bytes)) (onto_first b (lines_of (c ∷ bytes))) ≡ take (cond feed 0 (piece_len 10 (c ∷ bytes) + 1)) (b ∷ c ∷ bytes) ∷ lines_of (drop (suc (cond feed 0 (piece_len 10 (c ∷ bytes) + 1))) (b ∷ c ∷ bytes))
     by_first true rest = refl
     by_first false rest = rw (add-one, rest) refl
 
@@ -113,14 +115,14 @@ drop_some (b ∷ text) zero h e = cc
 drop_some (b ∷ text) (suc at) h e = drop_some text at (omega arith) e
 
 -- at a place within a text there is a line
-pub lines_there : (text : List ℕ) (at : ℕ) → at < length text → (l : List ℕ) × (ls : List (List ℕ)) × (lines (drop at text) ≡ l ∷ ls)
+pub lines_there : (text : List ℕ) (at : ℕ) → at < length text → (l : List ℕ) × (ls : List (List ℕ)) × (lines_of (drop at text) ≡ l ∷ ls)
 lines_there text at h =
-    (take (piece_len 10 (drop at text)) (drop at text), lines (drop (suc (piece_len 10 (drop at text))) (drop at text)), lines_cut (drop at text) (drop_some text at h))
+    (take (piece_len 10 (drop at text)) (drop at text), lines_of (drop (suc (piece_len 10 (drop at text))) (drop at text)), lines_cut (drop at text) (drop_some text at h))
 
 -- the line at a place of a text, and the lines behind it
-pub lines_step : (text line : List ℕ) (at next : ℕ) → at < length text → line ≡ take (piece_len 10 (drop at text)) (drop at text) → length line ≡ piece_len 10 (drop at text) → next ≡ at + (length line + 1) → lines (drop at text) ≡ line ∷ lines (drop next text)
+pub lines_step : (text line : List ℕ) (at next : ℕ) → at < length text → line ≡ take (piece_len 10 (drop at text)) (drop at text) → length line ≡ piece_len 10 (drop at text) → next ≡ at + (length line + 1) → lines_of (drop at text) ≡ line ∷ lines_of (drop next text)
 lines_step text line at next h piece len place =
     let size : next ≡ at + suc (piece_len 10 (drop at text)) = omega (arith, add-one (piece_len 10 (drop at text))) in
     lines_cut (drop at text) (drop_some text at h)
-    ∙ ap (λ l. l ∷ lines (drop (suc (piece_len 10 (drop at text))) (drop at text))) (sym piece)
-    ∙ ap (λ t. line ∷ lines t) (drop_more text at (suc (piece_len 10 (drop at text))) ∙ ap (λ k. drop k text) (sym size))
+    ∙ ap (λ l. l ∷ lines_of (drop (suc (piece_len 10 (drop at text))) (drop at text))) (sym piece)
+    ∙ ap (λ t. line ∷ lines_of t) (drop_more text at (suc (piece_len 10 (drop at text))) ∙ ap (λ k. drop k text) (sym size))

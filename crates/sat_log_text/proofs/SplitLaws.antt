@@ -8,7 +8,8 @@ use Rattle.std.proofs.lemmas.Fmt.{decimal_is_IsNumeral}
 use Rattle.std.proofs.lemmas.Str.Parse.{digit_from_value}
 use Rattle.sat_log.specs.Literal.{Literal, IsVariable}
 use Rattle.sat_log.specs.Accepted.{AreLines, IsLog}
-use Rattle.sat_log_text.specs.Page.{in_first, words, lines, page}
+use Rattle.text_lines.specs.Lines.{lines_of, onto_first}
+use Rattle.sat_log_text.specs.Page.{words, page}
 use Rattle.sat_log_text.specs.LogText.{spaced, line_text, literal_word, zero_word, letter, hint_words, line_words, clause_lines, header, end_words, log_page, text_of, IsTextOf}
 use Rattle.sat_log_text.specs.TextFault.{IsWritable}
 use Rattle.sat_log.specs.declared.line.LineKind.{LineKind}
@@ -18,7 +19,7 @@ use Rattle.sat_log_text.proofs.PageLaws.{follows_writable, length-push}
 
 -- A line is made of its words, and a text of its lines.
 
-line_in_first : (b : ℕ) (ws : List (List ℕ)) → ws ≢ [] → line_text (in_first b ws) ≡ b ∷ line_text ws
+line_in_first : (b : ℕ) (ws : List (List ℕ)) → ws ≢ [] → line_text (onto_first b ws) ≡ b ∷ line_text ws
 line_in_first b [] some = absurd (some refl)
 line_in_first b (w ∷ ws) some = refl
 
@@ -30,7 +31,7 @@ words_some : (bytes : List ℕ) → words bytes ≢ []
 words_some [] e = cc
 words_some (b ∷ bytes) e = by_first (eqb b 32) (words bytes) e
   where
-    by_first : (blank : Bool) (ws : List (List ℕ)) → cond blank ([] ∷ ws) (in_first b ws) ≡ [] → ⊥
+    by_first : (blank : Bool) (ws : List (List ℕ)) → cond blank ([] ∷ ws) (onto_first b ws) ≡ [] → ⊥
     by_first true ws e = cc
     by_first false [] e = cc
     by_first false (w ∷ ws) e = cc
@@ -39,7 +40,7 @@ line_of_words : (bytes : List ℕ) → line_text (words bytes) ≡ bytes ++ 10 �
 line_of_words [] = refl
 line_of_words (b ∷ bytes) = by_first (eqb b 32) refl (line_of_words bytes)
   where
-    by_first : (blank : Bool) → eqb b 32 ≡ blank → line_text (words bytes) ≡ bytes ++ 10 ∷ [] → line_text (cond blank ([] ∷ words bytes) (in_first b (words bytes))) ≡ b ∷ (bytes ++ 10 ∷ [])
+    by_first : (blank : Bool) → eqb b 32 ≡ blank → line_text (words bytes) ≡ bytes ++ 10 ∷ [] → line_text (cond blank ([] ∷ words bytes) (onto_first b (words bytes))) ≡ b ∷ (bytes ++ 10 ∷ [])
     by_first true same rest =
         line_behind_blank (words bytes) (words_some bytes) ∙ ap (λ t. 32 ∷ t) rest ∙ ap (λ c. c ∷ (bytes ++ 10 ∷ [])) (sym (eqb-true b 32 same))
     by_first false same rest = line_in_first b (words bytes) (words_some bytes) ∙ ap (λ t. b ∷ t) rest
@@ -50,22 +51,22 @@ joined ls = flat_map (λ l. l ++ 10 ∷ []) ls
 abbrev IsMadeOf : List (List ℕ) → List ℕ → Type 0
 IsMadeOf ls text = (text ≡ joined ls) ⊎ (text ++ 10 ∷ [] ≡ joined ls)
 
-made_in_first : (b : ℕ) (bytes : List ℕ) (ls : List (List ℕ)) → IsMadeOf ls bytes → IsMadeOf (in_first b ls) (b ∷ bytes)
+made_in_first : (b : ℕ) (bytes : List ℕ) (ls : List (List ℕ)) → IsMadeOf ls bytes → IsMadeOf (onto_first b ls) (b ∷ bytes)
 made_in_first b bytes [] (inl e) = inr (ap (λ t. b ∷ (t ++ 10 ∷ [])) e)
 made_in_first b [] [] (inr e) = cc
 made_in_first b (c ∷ bytes) [] (inr e) = cc
 made_in_first b bytes (l ∷ ls) (inl e) = inl (ap (λ t. b ∷ t) e)
 made_in_first b bytes (l ∷ ls) (inr e) = inr (ap (λ t. b ∷ t) e)
 
-made_of_lines : (text : List ℕ) → IsMadeOf (lines text) text
+made_of_lines : (text : List ℕ) → IsMadeOf (lines_of text) text
 made_of_lines [] = inl refl
 made_of_lines (b ∷ text) = by_first (eqb b 10) refl (made_of_lines text)
   where
-    by_first : (feed : Bool) → eqb b 10 ≡ feed → IsMadeOf (lines text) text → IsMadeOf (cond feed ([] ∷ lines text) (in_first b (lines text))) (b ∷ text)
+    by_first : (feed : Bool) → eqb b 10 ≡ feed → IsMadeOf (lines_of text) text → IsMadeOf (cond feed ([] ∷ lines_of text) (onto_first b (lines_of text))) (b ∷ text)
     by_first true same (inl e) = inl (ap (λ c. c ∷ text) (eqb-true b 10 same) ∙ ap (λ t. 10 ∷ t) e)
     by_first true same (inr e) =
         inr (ap (λ c. c ∷ (text ++ 10 ∷ [])) (eqb-true b 10 same) ∙ ap (λ t. 10 ∷ t) e)
-    by_first false same rest = made_in_first b text (lines text) rest
+    by_first false same rest = made_in_first b text (lines_of text) rest
 
 lines_of_words : (ls : List (List ℕ)) → flat_map line_text (map words ls) ≡ joined ls
 lines_of_words [] = refl
@@ -76,10 +77,10 @@ lines_of_words (l ∷ ls) =
 pub text_of_page : (text : List ℕ) (log : List LogLine) → page text ≡ log_page log → IsTextOf log text
 text_of_page text log e = by_end (made_of_lines text)
   where
-    whole : joined (lines text) ≡ text_of log
-    whole = sym (lines_of_words (lines text)) ∙ ap (flat_map line_text) e
+    whole : joined (lines_of text) ≡ text_of log
+    whole = sym (lines_of_words (lines_of text)) ∙ ap (flat_map line_text) e
 
-    by_end : IsMadeOf (lines text) text → IsTextOf log text
+    by_end : IsMadeOf (lines_of text) text → IsTextOf log text
     by_end (inl made) = inl (made ∙ whole)
     by_end (inr made) = inr (made ∙ whole)
 
@@ -110,7 +111,7 @@ words_spaced : (w : List ℕ) (ws : List (List ℕ)) → IsWord w → AllByRecur
 words_spaced w [] h hs = ap words (append-nil w) ∙ words_one w h
 words_spaced w (v ∷ ws) h hs = words_then w (v ++ spaced ws) h ∙ ap (λ us. w ∷ us) (words_spaced v ws hs.0 hs.1)
 
-lines_then : (l rest : List ℕ) → HasNoFeed l → lines (l ++ 10 ∷ rest) ≡ l ∷ lines rest
+lines_then : (l rest : List ℕ) → HasNoFeed l → lines_of (l ++ 10 ∷ rest) ≡ l ∷ lines_of rest
 lines_then [] rest h = refl
 lines_then (b ∷ l) rest h =
     let other : b ≡ 10 → ⊥ = (λ e. absurd (omega (arith, h.0))) in
@@ -199,13 +200,13 @@ log_has_words log h small =
 
 abbrev HasFeedOrLine : List ℕ → Type 0
 HasFeedOrLine text =
-    (lines (text ++ 10 ∷ []) ≡ lines text) ⊎ (lines (text ++ 10 ∷ []) ≡ lines text ++ [] ∷ [])
+    (lines_of (text ++ 10 ∷ []) ≡ lines_of text) ⊎ (lines_of (text ++ 10 ∷ []) ≡ lines_of text ++ [] ∷ [])
 
 feed_or_line : (text : List ℕ) → HasFeedOrLine text
 feed_or_line [] = inr refl
-feed_or_line (b ∷ text) = by_first (eqb b 10) refl (lines text) refl (feed_or_line text)
+feed_or_line (b ∷ text) = by_first (eqb b 10) refl (lines_of text) refl (feed_or_line text)
   where
-    by_first : (feed : Bool) → eqb b 10 ≡ feed → (ls : List (List ℕ)) → lines text ≡ ls → (lines (text ++ 10 ∷ []) ≡ lines text) ⊎ (lines (text ++ 10 ∷ []) ≡ lines text ++ [] ∷ []) → HasFeedOrLine (b ∷ text)
+    by_first : (feed : Bool) → eqb b 10 ≡ feed → (ls : List (List ℕ)) → lines_of text ≡ ls → (lines_of (text ++ 10 ∷ []) ≡ lines_of text) ⊎ (lines_of (text ++ 10 ∷ []) ≡ lines_of text ++ [] ∷ []) → HasFeedOrLine (b ∷ text)
     by_first true same ls e (inl f) = inl (rw (same, f) refl)
     by_first true same ls e (inr f) = inr (rw (same, f) refl)
     by_first false same ls e (inl f) = inl (rw (same, f) refl)
@@ -236,7 +237,7 @@ page_of_text text log h small is_text = by_end is_text
     with_feed : text ++ 10 ∷ [] ≡ text_of log → HasFeedOrLine text → page text ≡ log_page log
     with_feed e (inl f) = ap (map words) (sym f) ∙ ap page e ∙ written
     with_feed e (inr f) =
-        let lines_are : page text ++ ([] ∷ []) ∷ [] ≡ log_page log = sym (map_words-push (lines text)) ∙ ap (map words) (sym f) ∙ ap page e ∙ written in
+        let lines_are : page text ++ ([] ∷ []) ∷ [] ≡ log_page log = sym (map_words-push (lines_of text)) ∙ ap (map words) (sym f) ∙ ap page e ∙ written in
         let last : [] ∷ [] ≡ end_words (length log) = sym (last_line-push (page text) ([] ∷ [])) ∙ ap last_line lines_are ∙ last_line-push (header ∷ clause_lines 1 log) (end_words (length log)) in
         absurd (omega (arith, ap length last))
 
@@ -250,11 +251,11 @@ length-clause_lines : (id : ℕ) (log : List LogLine) → length (clause_lines i
 length-clause_lines id [] = refl
 length-clause_lines id (line ∷ log) = omega (arith, length-clause_lines (id + 1) log)
 
-lines_short : (text : List ℕ) → length (lines text) ≤ length text
+lines_short : (text : List ℕ) → length (lines_of text) ≤ length text
 lines_short [] = omega arith
-lines_short (b ∷ text) = by_first (eqb b 10) (lines text) (lines_short text)
+lines_short (b ∷ text) = by_first (eqb b 10) (lines_of text) (lines_short text)
   where
-    by_first : (feed : Bool) (ls : List (List ℕ)) → length ls ≤ length text → length (cond feed ([] ∷ ls) (in_first b ls)) ≤ length (b ∷ text)
+    by_first : (feed : Bool) (ls : List (List ℕ)) → length ls ≤ length text → length (cond feed ([] ∷ ls) (onto_first b ls)) ≤ length (b ∷ text)
     by_first true ls h = omega arith
     by_first false [] h = omega arith
     by_first false (l ∷ ls) h = omega arith
@@ -266,7 +267,7 @@ length-page (l ∷ ls) = omega (arith, length-page ls)
 -- a log whose lines stand in a text is shorter than it
 pub reached_short : (text : List ℕ) (log : List LogLine) (rest : List (List (List ℕ))) → page text ≡ header ∷ (clause_lines 1 log ++ rest) → length log + length rest < length text + 1
 reached_short text log rest e =
-    omega (arith, ap length e, length-page (lines text), lines_short text, length-append (clause_lines 1 log) rest, length-clause_lines 1 log)
+    omega (arith, ap length e, length-page (lines_of text), lines_short text, length-append (clause_lines 1 log) rest, length-clause_lines 1 log)
 
 line_some : (ws : List (List ℕ)) → 1 ≤ length (line_text ws)
 line_some [] = omega arith

@@ -1,6 +1,6 @@
 -- What a call answers where it may be refused memory.
-use Rattle.std.specs.Prelude.{◌≡◌, ◌≤◌, ℕ, Result, Ok, Err, List, length, drop}
-use Rattle.sat_log_text.specs.Page.{words_after}
+use Rattle.std.specs.Prelude.{◌≡◌, ◌≤◌, ℕ, Result, Ok, Err, List, [], ◌∷◌, length, drop}
+use Rattle.sat_log_text.specs.Page.{words}
 use Rattle.sat_log.specs.declared.line.LogLine.{LogLine}
 use Rattle.sat_log_text.specs.declared.fault.LogFault.{LogFault}
 use Rattle.sat_log_text.specs.declared.fault.LogFault.TheVariants.{NoMemory}
@@ -15,6 +15,11 @@ abbrev pub IsAnswer : {L : Type 0} → Result L LogFault → Result L LogFault �
 IsAnswer (Ok x) wanted = wanted ≡ Ok x
 IsAnswer (Err (NoMemory e)) wanted = Unit {0}
 IsAnswer (Err fault) wanted = wanted ≡ Err fault
+
+-- the words behind a blank, if there is one
+abbrev pub words_after : List ℕ → List (List ℕ)
+words_after [] = []
+words_after (b ∷ bytes) = words bytes
 
 -- The answer is these items and what follows the bytes that they take, or this fault, unless memory
 -- was refused.

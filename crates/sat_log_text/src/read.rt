@@ -2,9 +2,9 @@
 
 ghost use Rattle.std.specs.Prelude.{◌≡◌, ◌≢◌, ◌≤◌, ◌<◌, ◌+◌, ◌^◌, ◌++◌, ℕ, true, false, List, [], ◌∷◌, length, decimal, Err, IfSome, IfNone, OnOk};
 ghost use Rattle.sat_log.specs.declared.log.AppendFault.{AppendFault};
-ghost use Rattle.sat_log_text.specs.Page.{words, words_after, page};
+ghost use Rattle.sat_log_text.specs.Page.{words, page};
 ghost use Rattle.sat_log_text.specs.Reading.{items, number_of, literal_of, hints_of, after_letter, line_of, same_bytes, end_of, is_header, at_end, all_named, may_follow, with_words, read_page};
-ghost use Rattle.sat_log_text.specs.Answers.{IsAnswer, IsAnswerAt, IsLogAnswer};
+ghost use Rattle.sat_log_text.specs.Answers.{IsAnswer, IsAnswerAt, IsLogAnswer, words_after};
 
 use crate::LogFault;
 use crate::words::{kind, literal, number, piece_at, same_bytes};

@@ -33,19 +33,21 @@ impl Listed for LogCommand {
 
     fn word(self) -> &'static [u8] {
         match self {
-            LogCommand::CheckLog => b"check_log",
+            LogCommand::CheckLog => CHECK_LOG.word,
         }
     }
 
     fn help(self) -> &'static [u8] {
         match self {
-            LogCommand::CheckLog => b"check_log file",
+            LogCommand::CheckLog => CHECK_LOG.help,
         }
     }
 }
 
 /// `check_log file`
 pub const CHECK_LOG: Row<0> = Row {
+    word: b"check_log",
+    help: b"check_log file",
     table: commands::CHECK_LOG,
     needs: Phase::Start,
 };

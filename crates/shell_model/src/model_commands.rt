@@ -35,19 +35,21 @@ impl Listed for ModelCommand {
 
     fn word(self) -> &'static [u8] {
         match self {
-            ModelCommand::ReadModel => b"read_model",
+            ModelCommand::ReadModel => READ_MODEL.word,
         }
     }
 
     fn help(self) -> &'static [u8] {
         match self {
-            ModelCommand::ReadModel => b"read_model [-i file]",
+            ModelCommand::ReadModel => READ_MODEL.help,
         }
     }
 }
 
 /// `read_model [-i file]`
 pub const READ_MODEL: Row<1> = Row {
+    word: b"read_model",
+    help: b"read_model [-i file]",
     table: commands::READ_MODEL,
     needs: Phase::Start,
 };

@@ -1,6 +1,6 @@
 use Rattle.std.proofs.Common.{◌+◌, length, drop, ap, sym, subst, ◌∙◌, arith}
 use Rattle.std.specs.Prelude.{Some}
-use Rattle.sat_log_text.specs.Page.{words_after}
+use Rattle.sat_log_text.specs.Answers.{words_after}
 use Rattle.sat_log_text.specs.Reading.{line_of, after_letter}
 use Rattle.sat_log_text.specs.Answers.{IsAnswer}
 use Rattle.sat_log_text.proofs.ReadLemmas.{line_not_number, line_no_kind, line_kind}

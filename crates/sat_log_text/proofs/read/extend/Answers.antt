@@ -1,4 +1,3 @@
-use Rattle.std.proofs.Common.{◌≡◌, Bool, true, false, refl}
 use Rattle.std.proofs.lemmas.Bool.{false_from_ne_true}
 use Rattle.std.proofs.lemmas.Result.{on_ok_weaker}
 use Rattle.sat_log_text.proofs.PageLaws.{may_follow-sound, kind_named}

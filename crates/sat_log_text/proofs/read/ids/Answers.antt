@@ -1,5 +1,5 @@
 use Rattle.std.proofs.Common.{◌+◌, length, drop, ap, sym, ◌∙◌, arith}
-use Rattle.sat_log_text.specs.Page.{words_after}
+use Rattle.sat_log_text.specs.Answers.{words_after}
 use Rattle.sat_log_text.specs.Reading.{items, number_of}
 use Rattle.sat_log_text.proofs.PieceLemmas.{with_front, words_step, items_end, items_bad, items_more}
 use Rattle.sat_log_text.proofs.read.ids.Goals as goal

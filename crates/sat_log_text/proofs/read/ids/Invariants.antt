@@ -1,5 +1,5 @@
 use Rattle.std.proofs.Common.{◌≡◌, ◌-◌, ◌≤◌, length, drop}
-use Rattle.sat_log_text.specs.Page.{words_after}
+use Rattle.sat_log_text.specs.Answers.{words_after}
 use Rattle.sat_log_text.specs.Reading.{items, number_of}
 use Rattle.sat_log_text.proofs.PieceLemmas.{with_front}
 use Rattle.sat_log_text.proofs.read.ids.Given as goal

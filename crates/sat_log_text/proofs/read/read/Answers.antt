@@ -1,6 +1,7 @@
 use Rattle.std.proofs.Common.{◌≡◌, ◌+◌, List, length, drop, map, refl, sym, subst, ◌∙◌, arith}
 use Rattle.std.proofs.lemmas.Result.{err_from_is_err_and}
-use Rattle.sat_log_text.specs.Page.{words, lines, page}
+use Rattle.text_lines.specs.Lines.{lines_of}
+use Rattle.sat_log_text.specs.Page.{words, page}
 use Rattle.sat_log_text.specs.Reading.{read_page, read_rest}
 use Rattle.sat_log.specs.declared.line.LogLine.{LogLine}
 use Rattle.sat_log_text.proofs.ReadLemmas.{read_first, step_more, step_err, step_end, end_answer, err_as}
@@ -13,7 +14,7 @@ returns-then-not-is_header c =
 pub loop-at-init : goal.loop-at-init
 loop-at-init c =
     let first = read_first c.args.text.now c.piece_at-first.result.now _ c.piece_at-first.ensures.piece c.piece_at-first.ensures.len c.if-not-is_header.ensures in
-    subst (λ (log : List LogLine). read_page (page c.args.text.now) ≡ read_rest log (map words (lines (drop (length c.piece_at-first.result.now + 1) c.args.text.now)))) (sym c.in_ok-log.ensures) first
+    subst (λ (log : List LogLine). read_page (page c.args.text.now) ≡ read_rest log (map words (lines_of (drop (length c.piece_at-first.result.now + 1) c.args.text.now)))) (sym c.in_ok-log.ensures) first
 
 pub loop-at-preserved : goal.loop-at-preserved
 loop-at-preserved c =

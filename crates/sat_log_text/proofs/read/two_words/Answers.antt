@@ -1,5 +1,5 @@
 use Rattle.std.proofs.Common.{◌+◌, ◌∷◌, length, ap, sym, ◌∙◌, arith}
-use Rattle.sat_log_text.specs.Page.{words_after}
+use Rattle.sat_log_text.specs.Answers.{words_after}
 use Rattle.sat_log_text.proofs.PieceLemmas.{one_word, two_first, words_there, drop_end}
 use Rattle.sat_log_text.proofs.read.two_words.Goals as goal
 
