@@ -43,7 +43,7 @@ TellsVerdict (verdict.Stops n cause) = Says (Trace (Stops n cause))
 TellsVerdict (verdict.NoValue line name) = Refuses (refusal.NoValue line name)
 TellsVerdict verdict.NotBuilt = Refuses refusal.NotBuilt
 
--- what is said of the text of a trace; one of changes alone is not of the form that can be run so far
+-- what is said of the text of a trace; one of changes alone is not of the form that is read so far
 abbrev pub JudgesText : Bool → Program → List ℕ → Process
 JudgesText true program text = Refuses refusal.NotBuilt
 JudgesText false program text =
@@ -81,7 +81,8 @@ has_changes given = is_given given 0
 -- the command `execute_text_trace`
 abbrev pub DoesExecute : List (List ℕ) → Process
 DoesExecute words =
-    WithRow EXECUTE_TEXT_TRACE Start words (λ given. WithFirst (Executes (has_changes given)) given.rest)
+    WithRow EXECUTE_TEXT_TRACE Start words
+    (λ given. WithFirst (Executes (has_changes given)) given.rest)
 
 -- a command of this topic, one case each
 abbrev pub DoesTrace : TraceCommand → List (List ℕ) → Process

@@ -215,7 +215,8 @@ fn execute<W: Outside>(
     changes: bool,
     name: &Text,
 ) -> End
-    ensures { Does W.told (Executes changes name.now) state.old world.old result state.new world.new }
+    ensures { Does W.told (Executes changes name.now)
+        state.old world.old result state.new world.new }
 {
     match &state.model {
         Some(model) => judge_file(alloc, state, world, changes, model, name),
