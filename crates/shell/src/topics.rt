@@ -1,7 +1,7 @@
 ghost use Rattle.std.specs.Prelude.{◌≡◌};
 ghost use Rattle.shell_world.specs.Processes.{Each};
 ghost use Rattle.shell_world.specs.Scenes.{goes_along};
-ghost use Rattle.shell_world.specs.Written.{Does};
+ghost use Rattle.shell_world.specs.Outsides.{Does};
 ghost use Rattle.shell.specs.Rows.{command_of};
 ghost use Rattle.shell.specs.Topics.{Helps, HelpsAll, HelpsLine, HelpsOn, HelpsWith, Leaves, NamesNoCommand, Resets, without_model};
 

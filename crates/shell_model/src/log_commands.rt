@@ -3,7 +3,7 @@ ghost use Rattle.std.specs.Prelude.{◌⊎◌, IfOk, IfErr, Ok};
 ghost use Rattle.sat_log_text.specs.Answers.{IsNoMemory};
 ghost use Rattle.sat_log_text.specs.TextFault.{HasFault};
 ghost use Rattle.shell_world.specs.Steps.{WithFirst};
-ghost use Rattle.shell_world.specs.Written.{Does};
+ghost use Rattle.shell_world.specs.Outsides.{Does};
 ghost use Rattle.shell_model.specs.LogCommands.{ChecksFile, ChecksText, DoesCheckLog, DoesLog, IsChecked};
 
 use cmd_table::commands;

@@ -4,7 +4,7 @@ ghost use Rattle.std.specs.Option.{option_or};
 ghost use Rattle.shell_lang.specs.Keyed.{with_name};
 ghost use Rattle.shell_world.specs.Processes.{Becomes, MayLack};
 ghost use Rattle.shell_world.specs.Steps.{WithFile};
-ghost use Rattle.shell_world.specs.Written.{Does};
+ghost use Rattle.shell_world.specs.Outsides.{Does};
 ghost use Rattle.shell_model.specs.ModelCommands.{DoesModel, DoesReadModel, ReadsBy, ReadsModel, ReadsNamed, TakesText, input_file, model_limit, model_refusal, named_by, with_read};
 
 use bool_replay::{BoolModel, ModelFault};

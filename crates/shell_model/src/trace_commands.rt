@@ -2,7 +2,7 @@
 ghost use Rattle.std.specs.Prelude.{◌≡◌, ◌≤◌, length, Some};
 ghost use Rattle.shell_world.specs.Processes.{Becomes, MayLack, Then};
 ghost use Rattle.shell_world.specs.Steps.{WithFirst};
-ghost use Rattle.shell_world.specs.Written.{Does};
+ghost use Rattle.shell_world.specs.Outsides.{Does};
 ghost use Rattle.shell_model.specs.ModelCommands.{input_file};
 ghost use Rattle.shell_model.specs.TraceCommands.{DoesExecute, DoesTrace, Executes, ExecutesFrom, ExecutesOnText, JudgesFile, JudgesText, TellsVerdict, has_changes, with_model};
 

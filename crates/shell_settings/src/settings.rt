@@ -4,7 +4,7 @@ ghost use Rattle.shell_world.specs.declared.event.Event.TheVariants as event;
 ghost use Rattle.shell_world.specs.declared.settings_event.SettingsEvent.TheVariants as settings;
 ghost use Rattle.shell_world.specs.Texts.{joined};
 ghost use Rattle.shell_world.specs.Steps.{WithFirst};
-ghost use Rattle.shell_world.specs.Written.{Does};
+ghost use Rattle.shell_world.specs.Outsides.{Does};
 
 use crate::past::do_history;
 use cmd_table::commands;
