@@ -1,5 +1,4 @@
 pub mod Plain
-pub mod FirstNames
 pub mod Evaluation
 pub mod TraceTexts
 pub mod Replays
