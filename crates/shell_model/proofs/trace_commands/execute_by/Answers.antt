@@ -2,4 +2,4 @@ use Rattle.std.proofs.Common.{sym}
 use Rattle.shell_model.proofs.trace_commands.execute_by.Goals as goal
 
 pub returns : goal.returns
-returns g c = rw (sym c.has_changes.ensures, sym c.as_slice.ensures) c.execute_first.ensures
+returns g c = rw (sym c.has_changes-changes.ensures, sym c.as_slice.ensures) c.execute_first.ensures
