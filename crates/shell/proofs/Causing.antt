@@ -28,7 +28,8 @@ use Rattle.shell.specs.declared.rows.Command.{Command}
 use Rattle.shell.specs.declared.rows.Command.TheVariants as command
 use Rattle.shell.specs.declared.script.Script.{Script}
 use Rattle.shell.specs.declared.topics.ShellCommand.TheVariants as own
-use Rattle.shell.specs.declared.topics.TheConstants.{ECHO, HELP, QUIT, RESET, SOURCE}
+use Rattle.cmd_table.specs.declared.commands.TheConstants.{ECHO, HELP, QUIT, RESET, SOURCE}
+use Rattle.shell_world.specs.declared.phase.Phase.TheVariants.{Start}
 use Rattle.shell.specs.Echo.{EchoesTo, echo_file, echoed}
 use Rattle.shell.specs.Lines.{DoesAny, DoesCommand, DoesCommands, DoesGiven, DoesLine, DoesLineBy, DoesNamed, DoesPieces, DoesScriptLine, DoesWords, LacksScript, RunsScript, ShowsScriptLine, Sourcing, Unless, given_script, script_limit}
 use Rattle.text_lines.specs.Lines.{lines_of}
@@ -74,11 +75,11 @@ named_caused t nested k (command.Settings c) words = t.settings c words
 named_caused t nested k (command.Model c) words = t.model c words
 named_caused t nested k (command.Trace c) words = t.trace c words
 named_caused t nested k (command.Log c) words = t.log c words
-named_caused t nested k (command.Shell own.Echo) words = row_leave caused_fact ECHO words (λ given. MayLack (EchoesTo given (echo_file given))) (λ given. may_lack_leave caused_fact (echo_caused given (echo_file given)))
-named_caused t nested k (command.Shell own.Help) words = λ old events end new p. (row_leave still_fact HELP words (λ given. HelpsWith given.rest) (λ given. help_leaves given.rest) old events end new p).caused
-named_caused t nested k (command.Shell own.Quit) words = row_leave caused_fact QUIT words (λ given. Ends ends.Quits) (λ given. ends_leave caused_fact ends.Quits refl)
-named_caused t nested k (command.Shell own.Reset) words = guarded_caused (row_leave guards_fact RESET words (λ given. Becomes without_model) (λ given. becomes_guards without_model (λ s. refl)))
-named_caused t nested k (command.Shell own.Source) words = row_leave caused_fact SOURCE words (λ given. DoesGiven nested (given_script given)) (λ given. given_caused nested k (given_script given))
+named_caused t nested k (command.Shell own.Echo) words = row_leave caused_fact ECHO Start words (λ given. MayLack (EchoesTo given (echo_file given))) (λ given. may_lack_leave caused_fact (echo_caused given (echo_file given)))
+named_caused t nested k (command.Shell own.Help) words = λ old events end new p. (row_leave still_fact HELP Start words (λ given. HelpsWith given.rest) (λ given. help_leaves given.rest) old events end new p).caused
+named_caused t nested k (command.Shell own.Quit) words = row_leave caused_fact QUIT Start words (λ given. Ends ends.Quits) (λ given. ends_leave caused_fact ends.Quits refl)
+named_caused t nested k (command.Shell own.Reset) words = guarded_caused (row_leave guards_fact RESET Start words (λ given. Becomes without_model) (λ given. becomes_guards without_model (λ s. refl)))
+named_caused t nested k (command.Shell own.Source) words = row_leave caused_fact SOURCE Start words (λ given. DoesGiven nested (given_script given)) (λ given. given_caused nested k (given_script given))
 
 any_caused : TopicsCause → (nested : Script → Process) → ScriptsCause nested → (found : Option Command) (word : List ℕ) (words : List (List ℕ)) → Always (DoesAny nested found word words) IsCaused
 any_caused t nested k (Some c) word words = named_caused t nested k c words

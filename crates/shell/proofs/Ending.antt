@@ -15,10 +15,10 @@ use Rattle.shell_world.specs.Scenes.{Scene, Told, after, after_refusal, is_go, q
 use Rattle.shell_world.specs.Texts.{side_of, text_of}
 use Rattle.shell_world.specs.Written.{Breaks, Written}
 use Rattle.shell.specs.Closing.{Closes}
-use Rattle.shell.specs.Sessions.{Asked, Follows, Session, SessionAsked, Starts, asked_by, nesting_limit, nothing_asked, plain_script}
+use Rattle.shell.specs.Sessions.{Invocation, Follows, Session, SessionAsked, Starts, asked_by, nesting_limit, nothing_asked, plain_script}
 use Rattle.shell.specs.Sound.{IsSilent, IsSoundStatus, PassesLimit, SinksAreSilent}
 use Rattle.shell.proofs.Causing.{TopicsCause, sourcing_caused}
-use Rattle.shell.proofs.Turning.{PassesFrom, inner_not, silent_not, turns_pass}
+use Rattle.shell.proofs.Turning.{PassesFrom, inner_not, memory_not, quits_not, said_not, silent_not, turns_pass}
 
 -- a limit that is passed from the first line on
 from_none : (text : List ℕ) → PassesFrom 0 text → PassesLimit text
@@ -28,22 +28,8 @@ from_none text (inr h) = inr (omega (arith, h))
 went_not : ends.Went ≡ ends.InputFailed → ⊥
 went_not e = cc
 
-quits_not : ends.Quits ≡ ends.InputFailed → ⊥
-quits_not e = cc
-
 misused_not : ends.Misused ≡ ends.InputFailed → ⊥
 misused_not e = cc
-
-memory_not : ends.NoMemory ≡ ends.InputFailed → ⊥
-memory_not e = cc
-
-cut_not : ends.Cut ≡ ends.InputFailed → ⊥
-cut_not e = cc
-
--- what is told ends as is wanted, or is cut
-said_not : (wanted end : End) → (wanted ≡ ends.InputFailed → ⊥) → ((end ≡ wanted) ⊎ (end ≡ ends.Cut)) → end ≡ ends.InputFailed → ⊥
-said_not wanted end n (inl e) f = n (sym e ∙ f)
-said_not wanted end n (inr e) f = cut_not (sym e ∙ f)
 
 follows_pass : TopicsCause → (prompts : Bool) (text : List ℕ) (old : Scene) (events : List Happening) (end : End) (new : Scene) → end ≡ ends.InputFailed → old.input.left ≡ Some text → IsSilent old.input.faults new.input.faults → Follows prompts old events end new → PassesLimit text
 unfolding Ends
@@ -59,7 +45,7 @@ starts_pass t prompts (Some file) text old events end new f l i (inr p) =
     let k : IsCaused old p.before p.middle p.mid = sourcing_caused t nesting_limit (plain_script file) old p.before p.middle p.mid p.first in
     follows_pass t prompts text p.mid p.behind end new f (ap (λ i. i.left) k.input ∙ l) (subst (λ n. IsSilent n new.input.faults) (sym (ap (λ i. i.faults) k.input)) i) p.second
 
-asked_passes : TopicsCause → (asked : Option Asked) (text : List ℕ) (old : Scene) (events : List Happening) (end : End) (new : Scene) → end ≡ ends.InputFailed → old.input.left ≡ Some text → IsSilent old.input.faults new.input.faults → SessionAsked asked old events end new → PassesLimit text
+asked_passes : TopicsCause → (asked : Option Invocation) (text : List ℕ) (old : Scene) (events : List Happening) (end : End) (new : Scene) → end ≡ ends.InputFailed → old.input.left ≡ Some text → IsSilent old.input.faults new.input.faults → SessionAsked asked old events end new → PassesLimit text
 unfolding Chain Either EndsSaying Becomes
 asked_passes t None text old events end new f l i p = absurd (said_not ends.Misused end misused_not p.ended f)
 asked_passes t (Some asked) text old events end new f l i (inl p) = absurd (said_not ends.NoMemory end memory_not p.ended f)

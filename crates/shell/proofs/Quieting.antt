@@ -22,7 +22,7 @@ use Rattle.shell_world.specs.Processes.{Chain, Ends, EndsSaying, Process}
 use Rattle.shell_world.specs.Scenes.{Scene, goes_along, goes_on}
 use Rattle.shell_world.specs.Steps.{TakesLine}
 use Rattle.shell_world.proofs.Keeping.{Counts, becomes_caused, count_step, either_leave, some_leave}
-use Rattle.shell.specs.Sessions.{Asked, DoesNth, Follows, Session, SessionAsked, Starts, Treats, Turn, Turns, asked_by, line_limit, most_lines, naming, nesting_limit, nothing_asked, plain_script}
+use Rattle.shell.specs.Sessions.{Invocation, DoesNth, Follows, Session, SessionAsked, Starts, Treats, Turn, Turns, asked_by, line_limit, most_lines, naming, nesting_limit, nothing_asked, plain_script}
 use Rattle.shell.specs.Sessions.Turns.{goes, stops}
 use Rattle.shell.specs.Sound.{IsSilent}
 use Rattle.shell.proofs.Causing.{TopicsCause, lacks_memory_caused, prompt_caused, sourcing_caused}
@@ -140,7 +140,7 @@ starts_quiet : TopicsCause → (prompts : Bool) (script : Option (List ℕ)) →
 starts_quiet t prompts None = λ old events end new p. turns_quiet t prompts p
 starts_quiet t prompts (Some file) = chain_quiet goes_on (caused_quiet (sourcing_caused t nesting_limit (plain_script file))) (follows_quiet t prompts)
 
-asked_quiet : TopicsCause → (asked : Option Asked) → Always (SessionAsked asked) IsQuiet
+asked_quiet : TopicsCause → (asked : Option Invocation) → Always (SessionAsked asked) IsQuiet
 asked_quiet t None = says_quiet event.Usage ends.Misused refl
 asked_quiet t (Some asked) = either_leave (caused_quiet lacks_memory_caused) (chain_quiet goes_along (caused_quiet (becomes_caused (naming asked.model))) (starts_quiet t asked.prompts asked.script))
 

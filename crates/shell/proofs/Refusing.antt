@@ -29,7 +29,8 @@ use Rattle.shell.specs.declared.rows.Command.{Command}
 use Rattle.shell.specs.declared.rows.Command.TheVariants as command
 use Rattle.shell.specs.declared.script.Script.{Script}
 use Rattle.shell.specs.declared.topics.ShellCommand.TheVariants as own
-use Rattle.shell.specs.declared.topics.TheConstants.{ECHO, HELP, QUIT, RESET, SOURCE}
+use Rattle.cmd_table.specs.declared.commands.TheConstants.{ECHO, HELP, QUIT, RESET, SOURCE}
+use Rattle.shell_world.specs.declared.phase.Phase.TheVariants.{Start}
 use Rattle.shell.specs.Echo.{Echoes, EchoesTo, echo_file, echoed}
 use Rattle.shell.specs.Lines.{DoesAny, DoesCommand, DoesGiven, DoesLine, DoesNamed, DoesScriptLines, DoesSource, DoesWords, LacksScript, Sourcing, Unless, given_script, script_limit}
 use Rattle.shell.specs.Refused.{BreaksFile, ChangesLittle, ChangesMore, RefusedAfter, RefusedInput, RefusedLine, RunsGiven, RunsScriptLines}
@@ -63,17 +64,17 @@ echo_kept given (Some name) old events end new r p = inr (name, refl, stores_ref
 
 echo_little : (words : List (List ℕ)) (old : Scene) (events : List Happening) (end : End) (new : Scene) → end ≡ ends.Refused → Echoes words old events end new → IsKept old new ⊎ BreaksFile words old new
 unfolding Either
-echo_little words old events end new r p = given_row (by_row ECHO words (λ given. MayLack (EchoesTo given (echo_file given))) old events end new p)
+echo_little words old events end new r p = given_row (by_row ECHO Start words (λ given. MayLack (EchoesTo given (echo_file given))) old events end new p)
   where
-    broken : (given : Given) → Options ECHO.table words (Ok given) → (IsKept old new ⊎ ((name : List ℕ) × (echo_file given ≡ Some name) × IsKeptBut name (echoed given) old new)) → IsKept old new ⊎ BreaksFile words old new
+    broken : (given : Given) → Options ECHO words (Ok given) → (IsKept old new ⊎ ((name : List ℕ) × (echo_file given ≡ Some name) × IsKeptBut name (echoed given) old new)) → IsKept old new ⊎ BreaksFile words old new
     broken given o (inl k) = inl k
     broken given o (inr (name, e, k)) = inr record { given = given; file = name; reads = o; named = e; kept = k }
 
-    lacking : (given : Given) → Options ECHO.table words (Ok given) → MayLack (EchoesTo given (echo_file given)) old events end new → IsKept old new ⊎ BreaksFile words old new
+    lacking : (given : Given) → Options ECHO words (Ok given) → MayLack (EchoesTo given (echo_file given)) old events end new → IsKept old new ⊎ BreaksFile words old new
     lacking given o (inl q) = inl (lack_kept _ _ q)
     lacking given o (inr q) = broken given o (echo_kept given (echo_file given) old events end new r q)
 
-    given_row : (IsKept old new ⊎ ((given : Given) × Options ECHO.table words (Ok given) × MayLack (EchoesTo given (echo_file given)) old events end new)) → IsKept old new ⊎ BreaksFile words old new
+    given_row : (IsKept old new ⊎ ((given : Given) × Options ECHO words (Ok given) × MayLack (EchoesTo given (echo_file given)) old events end new)) → IsKept old new ⊎ BreaksFile words old new
     given_row (inl k) = inl k
     given_row (inr (given, o, q)) = lacking given o q
 
@@ -104,17 +105,17 @@ sourced (suc depth) script old events end new r (Err fault, inr p) =
     inl (kept_both (reads_still _ _ _ old p.before p.middle p.mid p.first).kept (lacks_script script fault _ _ p.second))
 
 source_little : (depth : ℕ) (words : List (List ℕ)) (old : Scene) (events : List Happening) (end : End) (new : Scene) → end ≡ ends.Refused → DoesSource (Sourcing depth) words old events end new → IsKept old new ⊎ RunsGiven depth words old new
-source_little depth words old events end new r p = given_row (by_row SOURCE words (λ given. DoesGiven (Sourcing depth) (given_script given)) old events end new p)
+source_little depth words old events end new r p = given_row (by_row SOURCE Start words (λ given. DoesGiven (Sourcing depth) (given_script given)) old events end new p)
   where
-    ran : (given : Given) → Options SOURCE.table words (Ok given) → (script : Script) → given_script given ≡ Some script → (IsKept old new ⊎ RunsScriptLines depth script old new) → IsKept old new ⊎ RunsGiven depth words old new
+    ran : (given : Given) → Options SOURCE words (Ok given) → (script : Script) → given_script given ≡ Some script → (IsKept old new ⊎ RunsScriptLines depth script old new) → IsKept old new ⊎ RunsGiven depth words old new
     ran given o script e (inl k) = inl k
     ran given o script e (inr k) = inr record { given = given; script = script; reads = o; named = e; runs = k }
 
-    by_script : (given : Given) → Options SOURCE.table words (Ok given) → (found : Option Script) → given_script given ≡ found → DoesGiven (Sourcing depth) found old events end new → IsKept old new ⊎ RunsGiven depth words old new
+    by_script : (given : Given) → Options SOURCE words (Ok given) → (found : Option Script) → given_script given ≡ found → DoesGiven (Sourcing depth) found old events end new → IsKept old new ⊎ RunsGiven depth words old new
     by_script given o None e q = inl (ended_kept ends.Went _ _ q)
     by_script given o (Some script) e q = ran given o script e (sourced depth script old events end new r q)
 
-    given_row : (IsKept old new ⊎ ((given : Given) × Options SOURCE.table words (Ok given) × DoesGiven (Sourcing depth) (given_script given) old events end new)) → IsKept old new ⊎ RunsGiven depth words old new
+    given_row : (IsKept old new ⊎ ((given : Given) × Options SOURCE words (Ok given) × DoesGiven (Sourcing depth) (given_script given) old events end new)) → IsKept old new ⊎ RunsGiven depth words old new
     given_row (inl k) = inl k
     given_row (inr (given, o, q)) = by_script given o (given_script given) refl q
 
@@ -125,10 +126,10 @@ named_little t depth (command.Model c) words old events end new r p = inl (t.mod
 named_little t depth (command.Trace c) words old events end new r p = inl (t.trace c words old events end new r p)
 named_little t depth (command.Log c) words old events end new r p = inl (t.log c words old events end new r p)
 named_little t depth (command.Shell own.Echo) words old events end new r p = echo_little words old events end new r p
-named_little t depth (command.Shell own.Help) words old events end new r p = inl (row_leave still_fact HELP words (λ given. HelpsWith given.rest) (λ given. help_leaves given.rest) old events end new p).kept
-named_little t depth (command.Shell own.Quit) words old events end new r p = inl (row_leave still_fact QUIT words (λ given. Ends ends.Quits) (λ given. ends_leave still_fact ends.Quits refl) old events end new p).kept
+named_little t depth (command.Shell own.Help) words old events end new r p = inl (row_leave still_fact HELP Start words (λ given. HelpsWith given.rest) (λ given. help_leaves given.rest) old events end new p).kept
+named_little t depth (command.Shell own.Quit) words old events end new r p = inl (row_leave still_fact QUIT Start words (λ given. Ends ends.Quits) (λ given. ends_leave still_fact ends.Quits refl) old events end new p).kept
 named_little t depth (command.Shell own.Reset) words old events end new r p =
-    inl (guarded_refused (row_leave guards_fact RESET words (λ given. Becomes without_model) (λ given. becomes_guards without_model (λ s. refl))) old events end new r p)
+    inl (guarded_refused (row_leave guards_fact RESET Start words (λ given. Becomes without_model) (λ given. becomes_guards without_model (λ s. refl))) old events end new r p)
 named_little t depth (command.Shell own.Source) words old events end new r p = source_little depth words old events end new r p
 
 -- the same of a command of a line

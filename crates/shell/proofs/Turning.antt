@@ -82,11 +82,16 @@ prompt_cut false old events end new p g = absurd (true≢false (sym (ap (goes_al
 cut_not : ends.Cut ≡ ends.InputFailed → ⊥
 cut_not e = cc
 
-quits_not : ends.Quits ≡ ends.InputFailed → ⊥
+pub quits_not : ends.Quits ≡ ends.InputFailed → ⊥
 quits_not e = cc
 
-memory_not : ends.NoMemory ≡ ends.InputFailed → ⊥
+pub memory_not : ends.NoMemory ≡ ends.InputFailed → ⊥
 memory_not e = cc
+
+-- what is told ends as is wanted, or is cut
+pub said_not : (wanted end : End) → (wanted ≡ ends.InputFailed → ⊥) → ((end ≡ wanted) ⊎ (end ≡ ends.Cut)) → end ≡ ends.InputFailed → ⊥
+said_not wanted end n (inl e) f = n (sym e ∙ f)
+said_not wanted end n (inr e) f = cut_not (sym e ∙ f)
 
 -- what is done about what was read
 treats_gives : TopicsCause → (count : ℕ) (text : List ℕ) (answer : Result Line LineFault) (start old : Scene) (events : List Happening) (end : End) (new : Scene) → start.input.left ≡ Some text → ReadsLine line_limit start.input answer old.input → Treats count answer old events end new → TurnGives count text start end new
@@ -113,11 +118,7 @@ treats_gives t count text (Err faults.TooLong) start old events end new l r p = 
 
     too_long : Some text ≡ start.input.left → ((front : List ℕ) × IsOneLine front × (length front ≡ line_limit + 1) × (start.input.left ≡ prepend_known front old.input.left)) → has_long_line text ≡ true
     too_long m (front, one, n, e) = by_left front one n old.input.left (m ∙ e)
-treats_gives t count text (Err (faults.NoMemory m)) start old events end new l r p = over (λ e. by_end p.ended e) (cut_or new.state refl p.ended)
-  where
-    by_end : ((end ≡ ends.NoMemory) ⊎ (end ≡ ends.Cut)) → end ≡ ends.InputFailed → ⊥
-    by_end (inl x) e = memory_not (sym x ∙ e)
-    by_end (inr x) e = cut_not (sym x ∙ e)
+treats_gives t count text (Err (faults.NoMemory m)) start old events end new l r p = over (said_not ends.NoMemory end memory_not p.ended) (cut_or new.state refl p.ended)
 
 -- a turn
 turn_gives : TopicsCause → (prompts : Bool) (count : ℕ) (text : List ℕ) (old : Scene) (events : List Happening) (end : End) (new : Scene) → old.input.left ≡ Some text → Turn prompts count old events end new → TurnGives count text old end new

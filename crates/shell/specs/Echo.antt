@@ -10,7 +10,8 @@ use Rattle.shell_world.specs.Processes.{MayLack, Process, Says}
 use Rattle.shell_world.specs.Rows.{WithRow}
 use Rattle.shell_world.specs.Steps.{Stores}
 use Rattle.shell_world.specs.Texts.{joined}
-use Rattle.shell.specs.declared.topics.TheConstants.{ECHO}
+use Rattle.cmd_table.specs.declared.commands.TheConstants.{ECHO}
+use Rattle.shell_world.specs.declared.phase.Phase.TheVariants.{Start}
 
 -- the options in the order of their row: `-2` writes to the error output, `-n` leaves the line end
 -- out, `-o` writes to a file alone
@@ -37,4 +38,4 @@ EchoesTo given None = Says (event.Shell (Echo (echo_side given) (echoed given)))
 EchoesTo given (Some file) = Stores file (echoed given)
 
 abbrev pub Echoes : List (List ℕ) → Process
-Echoes words = WithRow ECHO words (λ given. MayLack (EchoesTo given (echo_file given)))
+Echoes words = WithRow ECHO Start words (λ given. MayLack (EchoesTo given (echo_file given)))

@@ -28,7 +28,8 @@ use Rattle.shell.specs.declared.rows.Command.TheVariants as command
 use Rattle.shell.specs.declared.script.Script.{Script}
 use Rattle.shell.specs.declared.topics.ShellCommand.{ShellCommand}
 use Rattle.shell.specs.declared.topics.ShellCommand.TheVariants as own
-use Rattle.shell.specs.declared.topics.TheConstants.{SOURCE}
+use Rattle.cmd_table.specs.declared.commands.TheConstants.{SOURCE}
+use Rattle.shell_world.specs.declared.phase.Phase.TheVariants.{Start}
 use Rattle.shell.specs.Rows.{command_of}
 use Rattle.shell.specs.Topics.{Helps, Leaves, NamesNoCommand, Resets}
 
@@ -60,7 +61,8 @@ DoesGiven nested None = Ends ends.Went
 DoesGiven nested (Some script) = nested script
 
 abbrev pub DoesSource : (Script → Process) → List (List ℕ) → Process
-DoesSource nested words = WithRow SOURCE words (λ given. DoesGiven nested (given_script given))
+DoesSource nested words =
+    WithRow SOURCE Start words (λ given. DoesGiven nested (given_script given))
 
 -- a command of the shell itself with its words, one case each
 abbrev pub DoesShell : (Script → Process) → ShellCommand → List (List ℕ) → Process

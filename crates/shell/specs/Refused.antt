@@ -16,7 +16,7 @@ use Rattle.shell.specs.declared.rows.Command.{Command}
 use Rattle.shell.specs.declared.rows.Command.TheVariants as command
 use Rattle.shell.specs.declared.script.Script.{Script}
 use Rattle.shell.specs.declared.topics.ShellCommand.TheVariants as own
-use Rattle.shell.specs.declared.topics.TheConstants.{ECHO, SOURCE}
+use Rattle.cmd_table.specs.declared.commands.TheConstants.{ECHO, SOURCE}
 use Rattle.shell.specs.Echo.{echo_file, echoed}
 use Rattle.shell.specs.Lines.{DoesCommand, DoesLine, DoesScriptLines, Sourcing, given_script}
 use Rattle.shell.specs.Rows.{command_of}
@@ -26,7 +26,7 @@ use Rattle.shell.specs.Sessions.{nesting_limit, remembered}
 pub record BreaksFile (words : List (List ℕ)) (old new : Scene) : Type 0 where
   pub given : Given
   pub file : List ℕ
-  pub reads : Options ECHO.table words (Ok given)
+  pub reads : Options ECHO words (Ok given)
   pub named : echo_file given ≡ Some file
   pub kept : IsKeptBut file (echoed given) old new
 
@@ -47,7 +47,7 @@ RunsScriptLines (suc depth) script old new = RunsLines depth script old new
 pub record RunsGiven (depth : ℕ) (words : List (List ℕ)) (old new : Scene) : Type 0 where
   pub given : Given
   pub script : Script
-  pub reads : Options SOURCE.table words (Ok given)
+  pub reads : Options SOURCE words (Ok given)
   pub named : given_script given ≡ Some script
   pub runs : RunsScriptLines depth script old new
 

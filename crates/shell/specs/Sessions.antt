@@ -88,34 +88,34 @@ pub data Turns (prompts : Bool) : ℕ → Scene → List Happening → End → S
       → Turns prompts count old (first ++ others) last new
 
 -- what the words of the program ask for: prompts, a script that is done first, and the model's file
-pub record Asked : Type 0 where
+pub record Invocation : Type 0 where
   pub prompts : Bool
   pub script : Option (List ℕ)
   pub model : Option (List ℕ)
 
 -- nothing is asked for
-abbrev pub nothing_asked : Asked
+abbrev pub nothing_asked : Invocation
 nothing_asked = record { prompts = false; script = None; model = None }
 
 -- `-int`, `-source file` and a model's file, each once at most
-abbrev pub with_prompts : Asked → Option Asked
+abbrev pub with_prompts : Invocation → Option Invocation
 with_prompts asked = if asked.prompts then None else Some (record asked { prompts = true })
 
-abbrev pub with_script : Asked → List ℕ → Option Asked
+abbrev pub with_script : Invocation → List ℕ → Option Invocation
 with_script asked file =
     if is_some asked.script then None else Some (record asked { script = Some file })
 
-abbrev pub with_model_file : Asked → List ℕ → Option Asked
+abbrev pub with_model_file : Invocation → List ℕ → Option Invocation
 with_model_file asked file =
     if begins_with_dash file then None
     else (if is_some asked.model then None else Some (record asked { model = Some file }))
 
 -- one word, with no script behind it
-abbrev pub with_word : Asked → List ℕ → Option Asked
+abbrev pub with_word : Invocation → List ℕ → Option Invocation
 with_word asked word =
     if bytes_eq word (codes "-int") then with_prompts asked else with_model_file asked word
 
-abbrev pub asked_by : Option Asked → List (List ℕ) → Option Asked
+abbrev pub asked_by : Option Invocation → List (List ℕ) → Option Invocation
 asked_by None words = None
 asked_by (Some asked) [] = Some asked
 asked_by (Some asked) (word ∷ []) = with_word asked word
@@ -142,7 +142,7 @@ abbrev pub naming : Option (List ℕ) → State → State
 naming None state = state
 naming (Some file) state = record state { vars = with_name state.vars (codes "input_file") file }
 
-abbrev pub SessionAsked : Option Asked → Process
+abbrev pub SessionAsked : Option Invocation → Process
 SessionAsked None = EndsSaying event.Usage ends.Misused
 SessionAsked (Some asked) =
     Either LacksMemory (Then (Becomes (naming asked.model)) (Starts asked.prompts asked.script))

@@ -15,7 +15,8 @@ kept_nowhere = record { written = None; faults = 0 }
 
 -- an input of which this is left, files that never fail, and two such sinks
 abbrev pub sound_objects : List ℕ → List (List ℕ × List ℕ) → Told
-sound_objects left files = told_of (record { left = Some left; faults = 0 }) (sound files) kept_nowhere kept_nowhere
+sound_objects left files =
+    told_of (record { left = Some left; faults = 0 }) (sound files) kept_nowhere kept_nowhere
 
 -- a count of faults that could have risen did not
 pub record IsSilent (old new : ℕ) : Type 0 where

@@ -10,7 +10,7 @@ use Rattle.shell_world.specs.Processes.{Becomes, Each, Ends, ForSome, MayLack, P
 use Rattle.shell_world.specs.Rows.{WithRow}
 use Rattle.shell_world.specs.Scenes.{goes_along}
 use Rattle.shell.specs.declared.rows.Command.{Command}
-use Rattle.shell.specs.declared.topics.TheConstants.{HELP, QUIT, RESET}
+use Rattle.cmd_table.specs.declared.commands.TheConstants.{HELP, QUIT, RESET}
 use Rattle.shell.specs.Rows.{AreListed, command_of, help_of}
 
 -- a line of help
@@ -36,14 +36,14 @@ HelpsWith [] = HelpsAll
 HelpsWith (word ∷ words) = HelpsOn word (command_of word)
 
 abbrev pub Helps : List (List ℕ) → Process
-Helps words = WithRow HELP words (λ given. HelpsWith given.rest)
+Helps words = WithRow HELP Start words (λ given. HelpsWith given.rest)
 
 abbrev pub Leaves : List (List ℕ) → Process
-Leaves words = WithRow QUIT words (λ given. Ends ends.Quits)
+Leaves words = WithRow QUIT Start words (λ given. Ends ends.Quits)
 
 -- the model is dropped; variables, aliases and remembered lines stay
 abbrev pub without_model : State → State
 without_model state = record state { model = None; done = Start }
 
 abbrev pub Resets : List (List ℕ) → Process
-Resets words = WithRow RESET words (λ given. Becomes without_model)
+Resets words = WithRow RESET Start words (λ given. Becomes without_model)

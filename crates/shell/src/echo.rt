@@ -1,7 +1,7 @@
 ghost use Rattle.std.specs.Prelude.{◌≡◌, IfOk};
 ghost use Rattle.shell.specs.Echo.{Echoes, EchoesTo, echo_file, echo_side, echoed};
 ghost use Rattle.shell_world.specs.Processes.{MayLack};
-ghost use Rattle.shell_world.specs.Written.{Does};
+ghost use Rattle.shell_world.specs.Outsides.{Does};
 
 use crate::topics::ECHO;
 use cmd_table::Given;

@@ -2,7 +2,7 @@ ghost use Rattle.std.specs.Prelude.{◌≡◌, ◌+◌, ◌<◌, ◌≤◌, Ok, 
 ghost use Rattle.std.specs.List.{list_all};
 ghost use Rattle.text_lines.specs.Lines.{is_blank};
 ghost use Rattle.shell_world.specs.Processes.{Either, LacksMemory};
-ghost use Rattle.shell_world.specs.Written.{Does};
+ghost use Rattle.shell_world.specs.Outsides.{Does};
 ghost use Rattle.shell.specs.Sessions.{DoesInput, DoesRecalled, remembered};
 
 use crate::lines::{do_line, refuse_line};

@@ -2,7 +2,7 @@
 ghost use Rattle.std.specs.Prelude.{◌≡◌, IfOk, Ok};
 ghost use Rattle.shell_world.specs.Processes.{Each};
 ghost use Rattle.shell_world.specs.Scenes.{goes_along};
-ghost use Rattle.shell_world.specs.Written.{Does};
+ghost use Rattle.shell_world.specs.Outsides.{Does};
 ghost use Rattle.shell.specs.Lines.{DoesAny, DoesCommand, DoesLine, DoesNamed, DoesScriptLine, DoesScriptLines, DoesShell, DoesSource, DoesWords, LacksScript, ShowsScriptLine, Sourcing, given_script};
 ghost use Rattle.shell.specs.Rows.{command_of};
 ghost use Rattle.shell.specs.Stepping.{RefusesLine};

@@ -2,7 +2,7 @@ ghost use Rattle.std.specs.Prelude.{◌≡◌, ◌+◌, ◌≤◌, false, option
 ghost use Rattle.shell_world.specs.declared.end.Next.TheVariants.{Stop};
 ghost use Rattle.shell_world.specs.declared.state.State.{State};
 ghost use Rattle.shell_world.specs.Scenes.{after, goes_on};
-ghost use Rattle.shell_world.specs.Written.{Does};
+ghost use Rattle.shell_world.specs.Outsides.{Does};
 ghost use Rattle.shell.specs.AskedViews.{asked_of};
 ghost use Rattle.shell.specs.Closing.{Closes, told_of};
 ghost use Rattle.shell.specs.Sound.{IsSoundStatus, sound_objects};

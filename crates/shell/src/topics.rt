@@ -1,7 +1,7 @@
 ghost use Rattle.std.specs.Prelude.{◌≡◌};
 ghost use Rattle.shell_world.specs.Processes.{Each};
 ghost use Rattle.shell_world.specs.Scenes.{goes_along};
-ghost use Rattle.shell_world.specs.Written.{Does};
+ghost use Rattle.shell_world.specs.Outsides.{Does};
 ghost use Rattle.shell.specs.Rows.{command_of};
 ghost use Rattle.shell.specs.Topics.{Helps, HelpsAll, HelpsLine, HelpsOn, HelpsWith, Leaves, NamesNoCommand, Resets, without_model};
 
@@ -41,46 +41,56 @@ impl Listed for ShellCommand {
 
     fn word(self) -> &'static [u8] {
         match self {
-            ShellCommand::Echo => b"echo",
-            ShellCommand::Help => b"help",
-            ShellCommand::Quit => b"quit",
-            ShellCommand::Reset => b"reset",
-            ShellCommand::Source => b"source",
+            ShellCommand::Echo => ECHO.word,
+            ShellCommand::Help => HELP.word,
+            ShellCommand::Quit => QUIT.word,
+            ShellCommand::Reset => RESET.word,
+            ShellCommand::Source => SOURCE.word,
         }
     }
 
     fn help(self) -> &'static [u8] {
         match self {
-            ShellCommand::Echo => b"echo [-2] [-n] [-o file] [words]",
-            ShellCommand::Help => b"help [command]",
-            ShellCommand::Quit => b"quit",
-            ShellCommand::Reset => b"reset",
-            ShellCommand::Source => b"source [-p] [-s] [-x] file",
+            ShellCommand::Echo => ECHO.help,
+            ShellCommand::Help => HELP.help,
+            ShellCommand::Quit => QUIT.help,
+            ShellCommand::Reset => RESET.help,
+            ShellCommand::Source => SOURCE.help,
         }
     }
 }
 
 pub const ECHO: Row<3> = Row {
+    word: b"echo",
+    help: b"echo [-2] [-n] [-o file] [words]",
     table: commands::ECHO,
     needs: Phase::Start,
 };
 
 pub const HELP: Row<0> = Row {
+    word: b"help",
+    help: b"help [command]",
     table: commands::HELP,
     needs: Phase::Start,
 };
 
 pub const QUIT: Row<0> = Row {
+    word: b"quit",
+    help: b"quit",
     table: commands::QUIT,
     needs: Phase::Start,
 };
 
 pub const RESET: Row<0> = Row {
+    word: b"reset",
+    help: b"reset",
     table: commands::RESET,
     needs: Phase::Start,
 };
 
 pub const SOURCE: Row<3> = Row {
+    word: b"source",
+    help: b"source [-p] [-s] [-x] file",
     table: commands::SOURCE,
     needs: Phase::Start,
 };

@@ -4,13 +4,14 @@ use Rattle.std.specs.Prelude.{Option, None, Some, Result, Ok, Err}
 use Rattle.std.specs.Option.{option_or}
 use Rattle.shell_model.specs.declared.log_commands.LogCommand.{LogCommand}
 use Rattle.shell_model.specs.declared.log_commands.LogCommand.TheVariants as log_command
-use Rattle.shell_model.specs.declared.log_commands.TheConstants.{CHECK_LOG}
+use Rattle.cmd_table.specs.declared.commands.TheConstants.{CHECK_LOG}
+use Rattle.shell_world.specs.declared.phase.Phase.TheVariants.{Start}
 use Rattle.shell_model.specs.declared.model_commands.ModelCommand.{ModelCommand}
 use Rattle.shell_model.specs.declared.model_commands.ModelCommand.TheVariants as model_command
-use Rattle.shell_model.specs.declared.model_commands.TheConstants.{READ_MODEL}
+use Rattle.cmd_table.specs.declared.commands.TheConstants.{READ_MODEL}
 use Rattle.shell_model.specs.declared.trace_commands.TraceCommand.{TraceCommand}
 use Rattle.shell_model.specs.declared.trace_commands.TraceCommand.TheVariants as trace_command
-use Rattle.shell_model.specs.declared.trace_commands.TheConstants.{EXECUTE_TEXT_TRACE}
+use Rattle.cmd_table.specs.declared.commands.TheConstants.{EXECUTE_TEXT_TRACE}
 use Rattle.sat_log_text.specs.declared.fault.LogFault.{LogFault}
 use Rattle.smv_tree.specs.declared.program.Program.{Program}
 use Rattle.bool_replay.specs.declared.load.ModelFault.{ModelFault}
@@ -26,7 +27,7 @@ use Rattle.shell_world.specs.Scenes.{goes_along}
 use Rattle.shell_world.specs.Steps.{WithFirst}
 use Rattle.shell_model.specs.LogCommands.{ChecksFile, ChecksText, DoesLog, TellsLog, log_limit}
 use Rattle.shell_model.specs.ModelCommands.{DoesModel, KeepsRead, ReadsBy, ReadsModel, ReadsNamed, TakesText, input_file, model_limit, model_refusal, named_by, with_read}
-use Rattle.shell_model.specs.TraceCommands.{DoesTrace, Executes, ExecutesFrom, ExecutesIf, ExecutesOn, ExecutesOnText, ExecutesWith, JudgesFile, JudgesText, TellsVerdict, has_changes, trace_limit, with_model}
+use Rattle.shell_model.specs.TraceCommands.{DoesTrace, Executes, ExecutesFrom, ExecutesOn, ExecutesOnText, ExecutesWith, JudgesFile, JudgesText, TellsVerdict, has_changes, trace_limit, with_model}
 use Rattle.shell_world.specs.Keeping.{Always, tells_fault}
 use Rattle.shell_world.proofs.Keeping.{Guards, Still, becomes_guards, chain_leave, file_leave, first_leave, guards_fact, knowing_leave, may_lack_leave, refuses_leave, row_leave, says_leave, some_leave, still_fact, where_leave}
 
@@ -39,7 +40,7 @@ checks_leave : (text : List ℕ) → Always (ChecksText text) Guards
 checks_leave text = may_lack_leave guards_fact (some_leave _ (λ answer. where_leave _ (λ is. log_leaves answer)))
 
 pub log_guards : (c : LogCommand) (words : List (List ℕ)) → Always (DoesLog c words) Guards
-log_guards log_command.CheckLog words = row_leave guards_fact CHECK_LOG words (λ given. WithFirst ChecksFile given.rest) (λ given. first_leave guards_fact ChecksFile given.rest (λ name. file_leave guards_fact log_limit name ChecksText checks_leave))
+log_guards log_command.CheckLog words = row_leave guards_fact CHECK_LOG Start words (λ given. WithFirst ChecksFile given.rest) (λ given. first_leave guards_fact ChecksFile given.rest (λ name. file_leave guards_fact log_limit name ChecksText checks_leave))
 
 -- a text that is no model is no fault of the outside
 model_quiet : (f : ModelFault) → tells_fault (tells (event.Refused (model_refusal f))) ≡ false
@@ -62,7 +63,7 @@ named_guards (Some file) state = reads_guard file state.model
 
 pub model_guards : (c : ModelCommand) (words : List (List ℕ)) → Always (DoesModel c words) Guards
 model_guards model_command.ReadModel words =
-    row_leave guards_fact READ_MODEL words (λ given. MayLack (ReadsBy (named_by given)))
+    row_leave guards_fact READ_MODEL Start words (λ given. MayLack (ReadsBy (named_by given)))
     (λ given. may_lack_leave guards_fact (knowing_leave _ (λ state. named_guards (option_or (named_by given) (input_file state)) state)))
 
 -- a trace that is executed
@@ -72,24 +73,27 @@ verdict_leaves (verdict.Stops n cause) = says_leave still_fact _ _ refl refl
 verdict_leaves (verdict.NoValue line name) = says_leave still_fact _ _ refl refl
 verdict_leaves verdict.NotBuilt = says_leave still_fact _ _ refl refl
 
-judging_leaves : (program : Program) (name : List ℕ) → Always (JudgesFile program name) Still
-judging_leaves program name = file_leave still_fact trace_limit name (JudgesText program) (λ text. may_lack_leave still_fact (some_leave _ (λ v. where_leave _ (λ is. verdict_leaves v))))
+text_leaves : (changes : Bool) (program : Program) (text : List ℕ) → Always (JudgesText changes program text) Still
+text_leaves true program text = says_leave still_fact _ _ refl refl
+text_leaves false program text = may_lack_leave still_fact (some_leave _ (λ v. where_leave _ (λ is. verdict_leaves v)))
 
-on_guards : (name : List ℕ) (answer : Result Program ModelFault) → Always (ExecutesOn name answer) Guards
-on_guards name (Ok program) = chain_leave guards_fact goes_along (judging_leaves program name) (becomes_guards (with_model program) (λ s. refl))
-on_guards name (Err fault) = says_leave guards_fact _ _ (model_quiet fault) refl
+judging_leaves : (changes : Bool) (program : Program) (name : List ℕ) → Always (JudgesFile changes program name) Still
+judging_leaves changes program name = file_leave still_fact trace_limit name (JudgesText changes program) (text_leaves changes program)
 
-from_guards : (name : List ℕ) (file : Option (List ℕ)) → Always (ExecutesFrom name file) Guards
-from_guards name None = says_leave guards_fact _ _ refl refl
-from_guards name (Some file) = file_leave guards_fact model_limit file (ExecutesOnText name) (λ text. some_leave _ (λ answer. where_leave _ (λ is. on_guards name answer)))
+on_guards : (changes : Bool) (name : List ℕ) (answer : Result Program ModelFault) → Always (ExecutesOn changes name answer) Guards
+on_guards changes name (Ok program) = chain_leave guards_fact goes_along (judging_leaves changes program name) (becomes_guards (with_model program) (λ s. refl))
+on_guards changes name (Err fault) = says_leave guards_fact _ _ (model_quiet fault) refl
 
-with_guards : (name : List ℕ) (there : Option Program) (state : State) → Always (ExecutesWith name there state) Guards
-with_guards name (Some program) state = λ old events end new p. guards_fact.still old events end new (judging_leaves program name old events end new p)
-with_guards name None state = may_lack_leave guards_fact (from_guards name (input_file state))
+from_guards : (changes : Bool) (name : List ℕ) (file : Option (List ℕ)) → Always (ExecutesFrom changes name file) Guards
+from_guards changes name None = says_leave guards_fact _ _ refl refl
+from_guards changes name (Some file) = file_leave guards_fact model_limit file (ExecutesOnText changes name) (λ text. some_leave _ (λ answer. where_leave _ (λ is. on_guards changes name answer)))
 
-if_guards : (changes : Bool) (names : List (List ℕ)) → Always (ExecutesIf changes names) Guards
-if_guards true names = says_leave guards_fact _ _ refl refl
-if_guards false names = first_leave guards_fact Executes names (λ name. knowing_leave _ (λ state. with_guards name state.model state))
+with_guards : (changes : Bool) (name : List ℕ) (there : Option Program) (state : State) → Always (ExecutesWith changes name there state) Guards
+with_guards changes name (Some program) state = λ old events end new p. guards_fact.still old events end new (judging_leaves changes program name old events end new p)
+with_guards changes name None state = may_lack_leave guards_fact (from_guards changes name (input_file state))
+
+executes_guards : (changes : Bool) (name : List ℕ) → Always (Executes changes name) Guards
+executes_guards changes name = knowing_leave _ (λ state. with_guards changes name state.model state)
 
 pub trace_guards : (c : TraceCommand) (words : List (List ℕ)) → Always (DoesTrace c words) Guards
-trace_guards trace_command.ExecuteTextTrace words = row_leave guards_fact EXECUTE_TEXT_TRACE words (λ given. ExecutesIf (has_changes given) given.rest) (λ given. if_guards (has_changes given) given.rest)
+trace_guards trace_command.ExecuteTextTrace words = row_leave guards_fact EXECUTE_TEXT_TRACE Start words (λ given. WithFirst (Executes (has_changes given)) given.rest) (λ given. first_leave guards_fact (Executes (has_changes given)) given.rest (executes_guards (has_changes given)))

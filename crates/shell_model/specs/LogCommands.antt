@@ -13,7 +13,8 @@ use Rattle.shell_world.specs.Steps.{WithFile, WithFirst}
 use Rattle.shell_world.specs.Rows.{WithRow}
 use Rattle.shell_model.specs.declared.log_commands.LogCommand.{LogCommand}
 use Rattle.shell_model.specs.declared.log_commands.LogCommand.TheVariants as command
-use Rattle.shell_model.specs.declared.log_commands.TheConstants.{CHECK_LOG}
+use Rattle.cmd_table.specs.declared.commands.TheConstants.{CHECK_LOG}
+use Rattle.shell_world.specs.declared.phase.Phase.TheVariants.{Start}
 
 -- the word that a command is called by
 abbrev pub log_word : LogCommand → List ℕ
@@ -47,7 +48,7 @@ ChecksFile name = WithFile log_limit name ChecksText
 
 -- the command `check_log`
 abbrev pub DoesCheckLog : List (List ℕ) → Process
-DoesCheckLog words = WithRow CHECK_LOG words (λ given. WithFirst ChecksFile given.rest)
+DoesCheckLog words = WithRow CHECK_LOG Start words (λ given. WithFirst ChecksFile given.rest)
 
 -- a command of this topic, one case each
 abbrev pub DoesLog : LogCommand → List (List ℕ) → Process

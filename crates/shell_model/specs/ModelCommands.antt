@@ -9,7 +9,7 @@ use Rattle.smv_tree.specs.declared.program.Program.{Program}
 use Rattle.bool_replay.specs.declared.load.ModelFault.{ModelFault}
 use Rattle.bool_replay.specs.declared.load.ModelFault.TheVariants as fault
 use Rattle.bool_replay.specs.Verdicts.{ModelOf}
-use Rattle.shell_world.specs.declared.phase.Phase.TheVariants.{Read}
+use Rattle.shell_world.specs.declared.phase.Phase.TheVariants.{Read, Start}
 use Rattle.shell_world.specs.declared.refusal.Refusal.{Refusal}
 use Rattle.shell_world.specs.declared.refusal.Refusal.TheVariants as refusal
 use Rattle.shell_world.specs.declared.state.State.{State}
@@ -18,7 +18,7 @@ use Rattle.shell_world.specs.Steps.{WithFile}
 use Rattle.shell_world.specs.Rows.{WithRow}
 use Rattle.shell_model.specs.declared.model_commands.ModelCommand.{ModelCommand}
 use Rattle.shell_model.specs.declared.model_commands.ModelCommand.TheVariants as command
-use Rattle.shell_model.specs.declared.model_commands.TheConstants.{READ_MODEL}
+use Rattle.cmd_table.specs.declared.commands.TheConstants.{READ_MODEL}
 
 -- the word that a command is called by
 abbrev pub model_word : ModelCommand → List ℕ
@@ -78,7 +78,7 @@ named_by given = value_at given.values 0
 
 -- the command `read_model`
 abbrev pub DoesReadModel : List (List ℕ) → Process
-DoesReadModel words = WithRow READ_MODEL words (λ given. MayLack (ReadsBy (named_by given)))
+DoesReadModel words = WithRow READ_MODEL Start words (λ given. MayLack (ReadsBy (named_by given)))
 
 -- a command of this topic, one case each
 abbrev pub DoesModel : ModelCommand → List (List ℕ) → Process

@@ -3,7 +3,7 @@ ghost use Rattle.std.specs.Prelude.{◌⊎◌, IfOk, IfErr, Ok};
 ghost use Rattle.sat_log_text.specs.Answers.{IsNoMemory};
 ghost use Rattle.sat_log_text.specs.TextFault.{HasFault};
 ghost use Rattle.shell_world.specs.Steps.{WithFirst};
-ghost use Rattle.shell_world.specs.Written.{Does};
+ghost use Rattle.shell_world.specs.Outsides.{Does};
 ghost use Rattle.shell_model.specs.LogCommands.{ChecksFile, ChecksText, DoesCheckLog, DoesLog, IsChecked};
 
 use cmd_table::commands;
@@ -33,19 +33,21 @@ impl Listed for LogCommand {
 
     fn word(self) -> &'static [u8] {
         match self {
-            LogCommand::CheckLog => b"check_log",
+            LogCommand::CheckLog => CHECK_LOG.word,
         }
     }
 
     fn help(self) -> &'static [u8] {
         match self {
-            LogCommand::CheckLog => b"check_log file",
+            LogCommand::CheckLog => CHECK_LOG.help,
         }
     }
 }
 
 /// `check_log file`
 pub const CHECK_LOG: Row<0> = Row {
+    word: b"check_log",
+    help: b"check_log file",
     table: commands::CHECK_LOG,
     needs: Phase::Start,
 };

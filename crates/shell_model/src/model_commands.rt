@@ -4,7 +4,7 @@ ghost use Rattle.std.specs.Option.{option_or};
 ghost use Rattle.shell_lang.specs.Keyed.{with_name};
 ghost use Rattle.shell_world.specs.Processes.{Becomes, MayLack};
 ghost use Rattle.shell_world.specs.Steps.{WithFile};
-ghost use Rattle.shell_world.specs.Written.{Does};
+ghost use Rattle.shell_world.specs.Outsides.{Does};
 ghost use Rattle.shell_model.specs.ModelCommands.{DoesModel, DoesReadModel, ReadsBy, ReadsModel, ReadsNamed, TakesText, input_file, model_limit, model_refusal, named_by, with_read};
 
 use bool_replay::{BoolModel, ModelFault};
@@ -35,19 +35,21 @@ impl Listed for ModelCommand {
 
     fn word(self) -> &'static [u8] {
         match self {
-            ModelCommand::ReadModel => b"read_model",
+            ModelCommand::ReadModel => READ_MODEL.word,
         }
     }
 
     fn help(self) -> &'static [u8] {
         match self {
-            ModelCommand::ReadModel => b"read_model [-i file]",
+            ModelCommand::ReadModel => READ_MODEL.help,
         }
     }
 }
 
 /// `read_model [-i file]`
 pub const READ_MODEL: Row<1> = Row {
+    word: b"read_model",
+    help: b"read_model [-i file]",
     table: commands::READ_MODEL,
     needs: Phase::Start,
 };

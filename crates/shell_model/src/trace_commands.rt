@@ -1,10 +1,10 @@
 //! The topic of traces.
-ghost use Rattle.std.specs.Prelude.{◌≡◌, ◌≤◌, length, Some};
+ghost use Rattle.std.specs.Prelude.{◌≡◌, ◌≤◌, false, length, Some};
 ghost use Rattle.shell_world.specs.Processes.{Becomes, MayLack, Then};
 ghost use Rattle.shell_world.specs.Steps.{WithFirst};
-ghost use Rattle.shell_world.specs.Written.{Does};
+ghost use Rattle.shell_world.specs.Outsides.{Does};
 ghost use Rattle.shell_model.specs.ModelCommands.{input_file};
-ghost use Rattle.shell_model.specs.TraceCommands.{DoesExecute, DoesTrace, Executes, ExecutesFrom, ExecutesIf, ExecutesOnText, JudgesFile, JudgesText, TellsVerdict, has_changes, with_model};
+ghost use Rattle.shell_model.specs.TraceCommands.{DoesExecute, DoesTrace, Executes, ExecutesFrom, ExecutesOnText, JudgesFile, JudgesText, TellsVerdict, has_changes, with_model};
 
 use crate::model_commands::{MODEL_LIMIT, model_refusal};
 use bool_replay::{BoolModel, Verdict};
@@ -34,19 +34,21 @@ impl Listed for TraceCommand {
 
     fn word(self) -> &'static [u8] {
         match self {
-            TraceCommand::ExecuteTextTrace => b"execute_text_trace",
+            TraceCommand::ExecuteTextTrace => EXECUTE_TEXT_TRACE.word,
         }
     }
 
     fn help(self) -> &'static [u8] {
         match self {
-            TraceCommand::ExecuteTextTrace => b"execute_text_trace [-c] file",
+            TraceCommand::ExecuteTextTrace => EXECUTE_TEXT_TRACE.help,
         }
     }
 }
 
 /// `execute_text_trace [-c] file`, which reads the model itself where there is none
 pub const EXECUTE_TEXT_TRACE: Row<1> = Row {
+    word: b"execute_text_trace",
+    help: b"execute_text_trace [-c] file",
     table: commands::EXECUTE_TEXT_TRACE,
     needs: Phase::Start,
 };
@@ -71,8 +73,8 @@ fn tell_verdict<W: Outside>(state: &State, world: &mut W, verdict: Verdict) -> E
     }
 }
 
-/// Says what the text of a trace is.
-fn judge_text<W: Outside>(
+/// Says what the text of a trace is that states whole states.
+fn judge_whole<W: Outside>(
     alloc: Global,
     state: &State,
     world: &mut W,
@@ -80,7 +82,7 @@ fn judge_text<W: Outside>(
     text: &[u8],
 ) -> End
     requires { length text.now ≤ 4194304 }
-    ensures { Does W.told (JudgesText model.now text.now)
+    ensures { Does W.told (JudgesText false model.now text.now)
         state.now world.old result state.now world.new }
 {
     match model.judge(alloc, text) {
@@ -89,19 +91,40 @@ fn judge_text<W: Outside>(
     }
 }
 
+/// Says what the text of a trace is, which may have changes alone.
+fn judge_text<W: Outside>(
+    alloc: Global,
+    state: &State,
+    world: &mut W,
+    changes: bool,
+    model: &BoolModel,
+    text: &[u8],
+) -> End
+    requires { length text.now ≤ 4194304 }
+    ensures { Does W.told (JudgesText changes model.now text.now)
+        state.now world.old result state.now world.new }
+{
+    if changes {
+        refuse(state, world, Refusal::NotBuilt)
+    } else {
+        judge_whole(alloc, state, world, model, text)
+    }
+}
+
 /// Says what the trace in a file is.
 fn judge_file<W: Outside>(
     alloc: Global,
     state: &State,
     world: &mut W,
+    changes: bool,
     model: &BoolModel,
     name: &Text,
 ) -> End
-    ensures { Does W.told (JudgesFile model.now name.now)
+    ensures { Does W.told (JudgesFile changes model.now name.now)
         state.now world.old result state.now world.new }
 {
     match read_file(alloc, world, TRACE_LIMIT, name) {
-        Ok(text) => judge_text(alloc, state, world, model, text.as_slice()),
+        Ok(text) => judge_text(alloc, state, world, changes, model, text.as_slice()),
         Err(fault) => refuse_file(alloc, state, world, TRACE_LIMIT, name, fault),
     }
 }
@@ -112,13 +135,14 @@ fn execute_on<W: Outside>(
     alloc: Global,
     state: &mut State,
     world: &mut W,
+    changes: bool,
     name: &Text,
     model: BoolModel,
 ) -> End
-    ensures { Does W.told (Then (JudgesFile model name.now) (Becomes (with_model model)))
+    ensures { Does W.told (Then (JudgesFile changes model name.now) (Becomes (with_model model)))
         state.old world.old result state.new world.new }
 {
-    let end = judge_file(alloc, state, world, &model, name);
+    let end = judge_file(alloc, state, world, changes, &model, name);
     if !state.goes_along(end) {
         return end;
     }
@@ -132,15 +156,16 @@ fn execute_on_text<W: Outside>(
     alloc: Global,
     state: &mut State,
     world: &mut W,
+    changes: bool,
     name: &Text,
     text: &[u8],
 ) -> End
     requires { length text.now ≤ 4194304 }
-    ensures { Does W.told (ExecutesOnText name.now text.now)
+    ensures { Does W.told (ExecutesOnText changes name.now text.now)
         state.old world.old result state.new world.new }
 {
     match BoolModel::read(alloc, text) {
-        Ok(model) => execute_on(alloc, state, world, name, model),
+        Ok(model) => execute_on(alloc, state, world, changes, name, model),
         Err(fault) => refuse(state, world, model_refusal(fault)),
     }
 }
@@ -150,14 +175,15 @@ fn execute_from<W: Outside>(
     alloc: Global,
     state: &mut State,
     world: &mut W,
+    changes: bool,
     name: &Text,
     file: &Text,
 ) -> End
-    ensures { Does W.told (ExecutesFrom name.now (Some file.now))
+    ensures { Does W.told (ExecutesFrom changes name.now (Some file.now))
         state.old world.old result state.new world.new }
 {
     match read_file(alloc, world, MODEL_LIMIT, file) {
-        Ok(text) => execute_on_text(alloc, state, world, name, text.as_slice()),
+        Ok(text) => execute_on_text(alloc, state, world, changes, name, text.as_slice()),
         Err(fault) => refuse_file(alloc, state, world, MODEL_LIMIT, file, fault),
     }
 }
@@ -167,60 +193,84 @@ fn execute_on_named<W: Outside>(
     alloc: Global,
     state: &mut State,
     world: &mut W,
+    changes: bool,
     name: &Text,
     file: Option<Text>,
 ) -> End
-    ensures { Does W.told (ExecutesFrom name.now file)
+    ensures { Does W.told (ExecutesFrom changes name.now file)
         state.old world.old result state.new world.new }
 {
     match file {
-        Some(file) => execute_from(alloc, state, world, name, &file),
+        Some(file) => execute_from(alloc, state, world, changes, name, &file),
         None => refuse(state, world, Refusal::NoModel),
     }
 }
 
 /// Executes a trace on the model of the variable's file.
-fn execute_named<W: Outside>(alloc: Global, state: &mut State, world: &mut W, name: &Text) -> End
-    ensures { Does W.told (MayLack (ExecutesFrom name.now (input_file state.old)))
+fn execute_named<W: Outside>(
+    alloc: Global,
+    state: &mut State,
+    world: &mut W,
+    changes: bool,
+    name: &Text,
+) -> End
+    ensures { Does W.told (MayLack (ExecutesFrom changes name.now (input_file state.old)))
         state.old world.old result state.new world.new }
 {
     match copy_of(alloc, state.vars.input_file()) {
-        Ok(file) => execute_on_named(alloc, state, world, name, file),
+        Ok(file) => execute_on_named(alloc, state, world, changes, name, file),
         Err(AllocError) => refuse(state, world, Refusal::NoMemory),
     }
 }
 
 /// Executes a trace on the model that is kept, or else on the one of the variable's file.
-fn execute<W: Outside>(alloc: Global, state: &mut State, world: &mut W, name: &Text) -> End
-    ensures { Does W.told (Executes name.now) state.old world.old result state.new world.new }
+fn execute<W: Outside>(
+    alloc: Global,
+    state: &mut State,
+    world: &mut W,
+    changes: bool,
+    name: &Text,
+) -> End
+    ensures { Does W.told (Executes changes name.now)
+        state.old world.old result state.new world.new }
 {
     match &state.model {
-        Some(model) => judge_file(alloc, state, world, model, name),
-        None => execute_named(alloc, state, world, name),
+        Some(model) => judge_file(alloc, state, world, changes, model, name),
+        None => execute_named(alloc, state, world, changes, name),
     }
 }
 
 /// Executes the trace in the first of these files.
-fn execute_first<W: Outside>(alloc: Global, state: &mut State, world: &mut W, names: &[Text]) -> End
-    ensures { Does W.told (WithFirst Executes names.now)
+fn execute_first<W: Outside>(
+    alloc: Global,
+    state: &mut State,
+    world: &mut W,
+    changes: bool,
+    names: &[Text],
+) -> End
+    ensures { Does W.told (WithFirst (Executes changes) names.now)
         state.old world.old result state.new world.new }
 {
     match names {
         [] => End::Went,
-        [name, ..] => execute(alloc, state, world, name),
+        [name, ..] => execute(alloc, state, world, changes, name),
     }
+}
+
+/// Whether the trace has changes alone.
+fn has_changes(given: &Given) -> bool
+    ensures { result ≡ has_changes given.now }
+{
+    given.values.get(CHANGES).is_some()
 }
 
 /// Executes a trace, by the options.
 fn execute_by<W: Outside>(alloc: Global, state: &mut State, world: &mut W, given: &Given) -> End
-    ensures { Does W.told (ExecutesIf (has_changes given.now) given.now.rest)
+    ensures { Does W.told (WithFirst (Executes (has_changes given.now)) given.now.rest)
         state.old world.old result state.new world.new }
 {
-    if given.values.get(CHANGES).is_some() {
-        refuse(state, world, Refusal::NotBuilt)
-    } else {
-        execute_first(alloc, state, world, given.rest.as_slice())
-    }
+    let changes = has_changes(given);
+    execute_first(alloc, state, world, changes, given.rest.as_slice())
 }
 
 // `execute_text_trace [-c] file`

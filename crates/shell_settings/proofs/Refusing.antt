@@ -7,7 +7,8 @@ use Rattle.shell_lang.specs.Keyed.{at_name}
 use Rattle.shell_lang.specs.Past.{Past, line_of}
 use Rattle.shell_settings.specs.declared.settings.SettingsCommand.{SettingsCommand}
 use Rattle.shell_settings.specs.declared.settings.SettingsCommand.TheVariants as command
-use Rattle.shell_settings.specs.declared.settings.TheConstants.{ALIAS, HISTORY, SET, UNALIAS, UNSET}
+use Rattle.cmd_table.specs.declared.commands.TheConstants.{ALIAS, HISTORY, SET, UNALIAS, UNSET}
+use Rattle.shell_world.specs.declared.phase.Phase.TheVariants.{Start}
 use Rattle.shell_settings.specs.Settings.{AliasesWith, Alters, DoesSettings, DropsAlias, ListsAlias, ListsAliases, ListsValues, RefusesOr, SetsWith, ShowsAlias, ShowsLast, ShowsLine, ShowsMost, ShowsNamed, ShowsValue, ShowsWith, TakesBack}
 use Rattle.shell_world.specs.declared.end.End.TheVariants as ends
 use Rattle.shell_world.specs.declared.state.State.{State}
@@ -64,11 +65,11 @@ aliases_guard (name ∷ []) = alias_leaves name
 aliases_guard (name ∷ word ∷ words) = alters_guard _ _ _ (λ s. refl)
 
 settings_guard : (c : SettingsCommand) (words : List (List ℕ)) → Always (DoesSettings c words) Guards
-settings_guard command.Alias words = row_leave guards_fact ALIAS words (λ given. AliasesWith given.rest) (λ given. aliases_guard given.rest)
-settings_guard command.History words = row_leave guards_fact HISTORY words (λ given. ShowsWith given.rest) (λ given. shows_leave given.rest)
-settings_guard command.Set words = row_leave guards_fact SET words (λ given. SetsWith given.rest) (λ given. sets_guard given.rest)
-settings_guard command.Unalias words = row_leave guards_fact UNALIAS words (λ given. WithFirst DropsAlias given.rest) (λ given. first_leave guards_fact DropsAlias given.rest (λ name. alters_guard _ _ _ (λ s. refl)))
-settings_guard command.Unset words = row_leave guards_fact UNSET words (λ given. WithFirst TakesBack given.rest) (λ given. first_leave guards_fact TakesBack given.rest (λ name. alters_guard _ _ _ (λ s. refl)))
+settings_guard command.Alias words = row_leave guards_fact ALIAS Start words (λ given. AliasesWith given.rest) (λ given. aliases_guard given.rest)
+settings_guard command.History words = row_leave guards_fact HISTORY Start words (λ given. ShowsWith given.rest) (λ given. shows_leave given.rest)
+settings_guard command.Set words = row_leave guards_fact SET Start words (λ given. SetsWith given.rest) (λ given. sets_guard given.rest)
+settings_guard command.Unalias words = row_leave guards_fact UNALIAS Start words (λ given. WithFirst DropsAlias given.rest) (λ given. first_leave guards_fact DropsAlias given.rest (λ name. alters_guard _ _ _ (λ s. refl)))
+settings_guard command.Unset words = row_leave guards_fact UNSET Start words (λ given. WithFirst TakesBack given.rest) (λ given. first_leave guards_fact TakesBack given.rest (λ name. alters_guard _ _ _ (λ s. refl)))
 
 pub settings_refused : (c : SettingsCommand) (words : List (List ℕ)) → KeepsRefused (DoesSettings c words)
 settings_refused c words = guarded_refused (settings_guard c words)

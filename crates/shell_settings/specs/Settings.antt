@@ -10,7 +10,8 @@ use Rattle.shell_lang.specs.Known.{is_illegal, is_unknown, taken_back}
 use Rattle.shell_lang.specs.Past.{Past, line_of}
 use Rattle.shell_settings.specs.declared.settings.SettingsCommand.{SettingsCommand}
 use Rattle.shell_settings.specs.declared.settings.SettingsCommand.TheVariants as command
-use Rattle.shell_settings.specs.declared.settings.TheConstants.{ALIAS, HISTORY, SET, UNALIAS, UNSET}
+use Rattle.cmd_table.specs.declared.commands.TheConstants.{ALIAS, HISTORY, SET, UNALIAS, UNSET}
+use Rattle.shell_world.specs.declared.phase.Phase.TheVariants.{Start}
 use Rattle.shell_world.specs.declared.end.End.TheVariants as ends
 use Rattle.shell_world.specs.declared.event.Event.TheVariants as event
 use Rattle.shell_world.specs.declared.settings_event.SettingsEvent.TheVariants as settings
@@ -141,19 +142,19 @@ ShowsWith (word ∷ words) = ShowsMost word (number_of word)
 
 -- the commands
 abbrev pub Sets : List (List ℕ) → Process
-Sets words = WithRow SET words (λ given. SetsWith given.rest)
+Sets words = WithRow SET Start words (λ given. SetsWith given.rest)
 
 abbrev pub Unsets : List (List ℕ) → Process
-Unsets words = WithRow UNSET words (λ given. WithFirst TakesBack given.rest)
+Unsets words = WithRow UNSET Start words (λ given. WithFirst TakesBack given.rest)
 
 abbrev pub Aliases : List (List ℕ) → Process
-Aliases words = WithRow ALIAS words (λ given. AliasesWith given.rest)
+Aliases words = WithRow ALIAS Start words (λ given. AliasesWith given.rest)
 
 abbrev pub Unaliases : List (List ℕ) → Process
-Unaliases words = WithRow UNALIAS words (λ given. WithFirst DropsAlias given.rest)
+Unaliases words = WithRow UNALIAS Start words (λ given. WithFirst DropsAlias given.rest)
 
 abbrev pub ShowsHistory : List (List ℕ) → Process
-ShowsHistory words = WithRow HISTORY words (λ given. ShowsWith given.rest)
+ShowsHistory words = WithRow HISTORY Start words (λ given. ShowsWith given.rest)
 
 -- a command of the settings, one case each
 abbrev pub DoesSettings : SettingsCommand → List (List ℕ) → Process

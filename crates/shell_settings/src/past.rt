@@ -2,7 +2,7 @@ ghost use Rattle.std.specs.Prelude.{None, Some};
 ghost use Rattle.outside.specs.Number.{number_of};
 ghost use Rattle.shell_lang.specs.Past.{line_of};
 ghost use Rattle.shell_settings.specs.Settings.{ShowsHistory, ShowsLast, ShowsLine, ShowsMost, ShowsWith};
-ghost use Rattle.shell_world.specs.Written.{Does};
+ghost use Rattle.shell_world.specs.Outsides.{Does};
 
 use crate::settings::HISTORY;
 use cmd_table::OptFault;

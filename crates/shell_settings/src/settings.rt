@@ -4,7 +4,7 @@ ghost use Rattle.shell_world.specs.declared.event.Event.TheVariants as event;
 ghost use Rattle.shell_world.specs.declared.settings_event.SettingsEvent.TheVariants as settings;
 ghost use Rattle.shell_world.specs.Texts.{joined};
 ghost use Rattle.shell_world.specs.Steps.{WithFirst};
-ghost use Rattle.shell_world.specs.Written.{Does};
+ghost use Rattle.shell_world.specs.Outsides.{Does};
 
 use crate::past::do_history;
 use cmd_table::commands;
@@ -44,46 +44,56 @@ impl Listed for SettingsCommand {
 
     fn word(self) -> &'static [u8] {
         match self {
-            SettingsCommand::Alias => b"alias",
-            SettingsCommand::History => b"history",
-            SettingsCommand::Set => b"set",
-            SettingsCommand::Unalias => b"unalias",
-            SettingsCommand::Unset => b"unset",
+            SettingsCommand::Alias => ALIAS.word,
+            SettingsCommand::History => HISTORY.word,
+            SettingsCommand::Set => SET.word,
+            SettingsCommand::Unalias => UNALIAS.word,
+            SettingsCommand::Unset => UNSET.word,
         }
     }
 
     fn help(self) -> &'static [u8] {
         match self {
-            SettingsCommand::Alias => b"alias [name [words]]",
-            SettingsCommand::History => b"history [n]",
-            SettingsCommand::Set => b"set [name [value]]",
-            SettingsCommand::Unalias => b"unalias name",
-            SettingsCommand::Unset => b"unset name",
+            SettingsCommand::Alias => ALIAS.help,
+            SettingsCommand::History => HISTORY.help,
+            SettingsCommand::Set => SET.help,
+            SettingsCommand::Unalias => UNALIAS.help,
+            SettingsCommand::Unset => UNSET.help,
         }
     }
 }
 
 pub const ALIAS: Row<0> = Row {
+    word: b"alias",
+    help: b"alias [name [words]]",
     table: commands::ALIAS,
     needs: Phase::Start,
 };
 
 pub const HISTORY: Row<0> = Row {
+    word: b"history",
+    help: b"history [n]",
     table: commands::HISTORY,
     needs: Phase::Start,
 };
 
 pub const SET: Row<0> = Row {
+    word: b"set",
+    help: b"set [name [value]]",
     table: commands::SET,
     needs: Phase::Start,
 };
 
 pub const UNALIAS: Row<0> = Row {
+    word: b"unalias",
+    help: b"unalias name",
     table: commands::UNALIAS,
     needs: Phase::Start,
 };
 
 pub const UNSET: Row<0> = Row {
+    word: b"unset",
+    help: b"unset name",
     table: commands::UNSET,
     needs: Phase::Start,
 };

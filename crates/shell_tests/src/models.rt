@@ -41,7 +41,11 @@ fn executes_traces(rt: HostRuntime) -> Result<(), AllocError> {
             "execute_text_trace t",
             "error 899: not built yet\n0",
         ),
-        ("", "execute_text_trace -c t", "error 899: not built yet\n0"),
+        (
+            "",
+            "execute_text_trace -c t\nexecute_text_trace -c u",
+            "error 899: not built yet\nerror 646: u: no such file\n0",
+        ),
         ("", "execute_text_trace u", "error 646: u: no such file\n0"),
         (
             "x = FALSE\n",
@@ -77,7 +81,7 @@ fn executes_traces(rt: HostRuntime) -> Result<(), AllocError> {
 #[test]
 fn needs_a_model(rt: HostRuntime) -> Result<(), AllocError> {
     let alloc = rt.alloc();
-    let said = said(alloc, b"", b"", b"", b"", b"execute_text_trace t")?;
+    let said = said(alloc, b"", b"", b"", b"", b"execute_text_trace -c t")?;
     assert!(rt; said.as_slice() == b"error 642: no model\n0".as_slice());
     Ok(())
 }

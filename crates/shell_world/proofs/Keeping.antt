@@ -15,6 +15,7 @@ use Rattle.outside.specs.Disk.{BreaksOff, IsLonger, ReadsFile, WritesFile}
 use Rattle.outside.specs.Told.{Disk, HasRisen}
 use Rattle.cmd_table.specs.declared.fault.OptFault.{OptFault}
 use Rattle.cmd_table.specs.declared.given.Given.{Given}
+use Rattle.cmd_table.specs.declared.table.Table.{Table}
 use Rattle.cmd_table.specs.Options.{Options}
 use Rattle.shell_world.specs.declared.end.End.{End}
 use Rattle.shell_world.specs.declared.end.End.TheVariants as ends
@@ -23,7 +24,6 @@ use Rattle.shell_world.specs.declared.event.Event.TheVariants as event
 use Rattle.shell_world.specs.declared.phase.Phase.{Phase}
 use Rattle.shell_world.specs.declared.refusal.Refusal.{Refusal}
 use Rattle.shell_world.specs.declared.refusal.Refusal.TheVariants as refusal
-use Rattle.shell_world.specs.declared.row.Row.{Row}
 use Rattle.shell_world.specs.declared.state.State.{State}
 use Rattle.shell_world.specs.Happenings.{Asked, Happening, tells}
 use Rattle.shell_world.specs.Keeping.{Always, IsCaused, IsKept, KeepsRefused, KeepsRefusedBut, is_inner, last_count, tells_fault}
@@ -356,20 +356,20 @@ row_quiet lack (Err fault) r q e = ap (λ x. tells_fault (tells (event.Refused (
 row_quiet None (Ok read) r q e = absurd (false≢true (ap is_err (sym e)))
 row_quiet (Some s) (Ok read) r q e = ap (λ x. tells_fault (tells (event.Refused (refused_in r x)))) e ∙ q s refl
 
-pub row_leave : {R : Process} → IsFact R → {N : ℕ} (row : Row N) (words : List (List ℕ)) (P : Given → Process) → ((given : Given) → Always (P given) R) → Always (WithRow row words P) R
-row_leave {R = R} f row words P k =
-    may_lack_leave f (knowing_leave (ByRow row words P) (λ s. some_leave _ (λ answer. where_leave _ (after s answer))))
+pub row_leave : {R : Process} → IsFact R → {N : ℕ} (table : Table N) (needs : Phase) (words : List (List ℕ)) (P : Given → Process) → ((given : Given) → Always (P given) R) → Always (WithRow table needs words P) R
+row_leave {R = R} f table needs words P k =
+    may_lack_leave f (knowing_leave (ByRow table needs words P) (λ s. some_leave _ (λ answer. where_leave _ (after s answer))))
   where
-    after : (s : State) (answer : Result Given Refusal) → Gives row words s answer → Always (AfterRow P answer) R
+    after : (s : State) (answer : Result Given Refusal) → Gives table needs words s answer → Always (AfterRow P answer) R
     after s (Ok given) g = k given
-    after s (Err r) (options, o, e) = says_leave f _ _ (row_quiet _ options r (early_quiet s.model (missing (phase_of s.model s.done) row.needs)) e) refl
+    after s (Err r) (options, o, e) = says_leave f _ _ (row_quiet _ options r (early_quiet s.model (missing (phase_of s.model s.done) needs)) e) refl
 
 -- a command by its row is refused and changes nothing, or does what follows on its options
-pub by_row : {N : ℕ} (row : Row N) (words : List (List ℕ)) (P : Given → Process) (old : Scene) (events : List Happening) (end : End) (new : Scene) → WithRow row words P old events end new → IsKept old new ⊎ ((given : Given) × Options row.table words (Ok given) × P given old events end new)
+pub by_row : {N : ℕ} (table : Table N) (needs : Phase) (words : List (List ℕ)) (P : Given → Process) (old : Scene) (events : List Happening) (end : End) (new : Scene) → WithRow table needs words P old events end new → IsKept old new ⊎ ((given : Given) × Options table words (Ok given) × P given old events end new)
 unfolding Either ForSome Knowing Where
-by_row row words P old events end new (inl (r, (n, p))) = inl (said_kept (event.Refused r) ends.Refused events end p)
-by_row row words P old events end new (inr (Ok given, ((options, o, e), p))) = inr (given, subst (λ x. Options row.table words x) (given_by _ options given e) o, p)
-by_row row words P old events end new (inr (Err r, (g, p))) = inl (said_kept (event.Refused r) ends.Refused events end p)
+by_row table needs words P old events end new (inl (r, (n, p))) = inl (said_kept (event.Refused r) ends.Refused events end p)
+by_row table needs words P old events end new (inr (Ok given, ((options, o, e), p))) = inr (given, subst (λ x. Options table words x) (given_by _ options given e) o, p)
+by_row table needs words P old events end new (inr (Err r, (g, p))) = inl (said_kept (event.Refused r) ends.Refused events end p)
 
 -- a write that did not go well broke off
 broke_off : (name bytes : List ℕ) (fault : FileFault) (old new : Disk) → WritesFile name bytes old (Err fault) new → BreaksOff name bytes old.held new.held

@@ -1,4 +1,4 @@
--- What the calls to the outside answer and leave.
+-- What the calls to the outside answer and leave, and how a function says what it does with them.
 use Rattle.std.specs.Prelude.{◌≡◌, ℕ, List, Result}
 use Rattle.outside.specs.declared.Failed.{Failed}
 use Rattle.outside.specs.declared.files.FileFault.{FileFault}
@@ -7,11 +7,15 @@ use Rattle.outside.specs.declared.source.LineFault.{LineFault}
 use Rattle.outside.specs.Disk.{ReadsFile, WritesFile}
 use Rattle.outside.specs.Lines.{ReadsLine}
 use Rattle.outside.specs.Told.{Writes}
+use Rattle.shell_world.specs.declared.end.End.{End}
 use Rattle.shell_world.specs.declared.event.Event.{Event}
 use Rattle.shell_world.specs.declared.event.Side.{Side}
 use Rattle.shell_world.specs.declared.event.Side.TheVariants.{Output, Errors}
-use Rattle.shell_world.specs.Scenes.{Told}
+use Rattle.shell_world.specs.declared.state.State.{State}
+use Rattle.shell_world.specs.Processes.{Process}
+use Rattle.shell_world.specs.Scenes.{Told, at}
 use Rattle.shell_world.specs.Texts.{side_of, text_of}
+use Rattle.shell_world.specs.Written.{Performs}
 
 -- a line was read from the input
 pub record ReadsInput (limit : ℕ)
@@ -43,3 +47,7 @@ WritesOn Errors text old result new =
 pub record Tells (event : Event)
     (old : Told) (result : Result (Unit {0}) Failed) (new : Told) : Type 0 where
   pub writes : WritesOn (side_of event) (text_of event) old result new
+
+-- between a session with an outside, and these after it, the process is performed
+abbrev pub Does : {W : Type 0} → (W → Told) → Process → State → W → End → State → W → Type 0
+Does told P old world end new world' = Performs P (at old (told world)) end (at new (told world'))

@@ -7,10 +7,9 @@ use Rattle.shell_world.specs.declared.end.End.TheVariants as ends
 use Rattle.shell_world.specs.declared.event.Event.{Event}
 use Rattle.shell_world.specs.declared.event.Side.{Side}
 use Rattle.shell_world.specs.declared.event.Side.TheVariants as side
-use Rattle.shell_world.specs.declared.state.State.{State}
 use Rattle.shell_world.specs.Happenings.{Happening, tells, text_on}
 use Rattle.shell_world.specs.Processes.{Process}
-use Rattle.shell_world.specs.Scenes.{Moment, Told, at, scene_of}
+use Rattle.shell_world.specs.Scenes.{Moment, Told, scene_of}
 use Rattle.shell_world.specs.Texts.{side_of, text_of}
 
 -- all of the events were written, and no sink failed
@@ -50,7 +49,3 @@ pub record Performs (P : Process) (old : Moment) (end : End) (new : Moment) : Ty
   pub happens : P (scene_of old) events end (scene_of new)
   pub written : Written events end old.told new.told
   pub same : new.told.objects ≡ old.told.objects
-
--- the same between a session with an outside, and these after it
-abbrev pub Does : {W : Type 0} → (W → Told) → Process → State → W → End → State → W → Type 0
-Does told P old world end new world' = Performs P (at old (told world)) end (at new (told world'))

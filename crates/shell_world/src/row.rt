@@ -8,9 +8,13 @@ use cmd_table::{Given, Table, read_options};
 use outside::{Text, Words};
 use std::alloc::{AllocError, Global};
 
-/// What a command takes, and what it needs.
+/// A command: how it is called, what it takes, and what it needs.
 #[derive(Clone, Copy)]
 pub struct Row<const N: usize> {
+    /// The word that it is called by.
+    pub word: &'static [u8],
+    /// Its line of `help`: the command as a user writes it.
+    pub help: &'static [u8],
     /// Its options and free words.
     pub table: Table<N>,
     /// The phase that a session has to be in, or past.
@@ -75,9 +79,11 @@ pub fn read_row<const N: usize>(
     row: &Row<N>,
     words: &Words,
 ) -> Result<Given, Refusal>
-    ensures given { IfOk result (λ given. Gives row.now words.now state.now (Ok given)) }
+    ensures given { IfOk result (λ given.
+        Gives row.now.table row.now.needs words.now state.now (Ok given)) }
     ensures refused { IfErr result (λ refusal.
-        (refusal_number refusal ≡ 900) ⊎ Gives row.now words.now state.now (Err refusal)) }
+        (refusal_number refusal ≡ 900)
+        ⊎ Gives row.now.table row.now.needs words.now state.now (Err refusal)) }
 {
     match read_options(alloc, &row.table, words) {
         Ok(given) => match state.lacks(row.needs) {

@@ -2,7 +2,7 @@ ghost use Rattle.std.specs.Prelude.{◌≢◌};
 ghost use Rattle.shell_world.specs.declared.end.End.TheVariants as ends;
 ghost use Rattle.shell_world.specs.declared.state.State.{State};
 ghost use Rattle.shell_world.specs.Processes.{EndsSaying, LacksMemory, Refuses, Says, SaysIf};
-ghost use Rattle.shell_world.specs.Written.{Does};
+ghost use Rattle.shell_world.specs.Outsides.{Does};
 
 use crate::{End, Event, Outside, Refusal, State};
 

@@ -1,6 +1,7 @@
 use Rattle.std.proofs.Common.{◌≡◌, ◌-◌, ◌∙◌, arith, refl, sym, subst, suc}
 use Rattle.std.specs.Prelude.{Ok, Err}
-use Rattle.shell.specs.declared.topics.TheConstants.{SOURCE}
+use Rattle.cmd_table.specs.declared.commands.TheConstants.{SOURCE}
+use Rattle.shell_world.specs.declared.phase.Phase.TheVariants.{Start}
 use Rattle.shell_world.specs.declared.end.End.TheVariants as ends
 use Rattle.shell_world.specs.declared.refusal.Refusal.TheVariants as refusal
 use Rattle.shell_world.specs.Processes.{Then}
@@ -90,7 +91,7 @@ do_script_line-returns-in-Err-clause-does g t c =
 
 pub do_source-returns-in-Err-clause-does : goal.do_source-returns-in-Err-clause-does
 do_source-returns-in-Err-clause-does g t c =
-    without_row SOURCE c.args.words.now (λ given. DoesGiven (Sourcing c.args.depth) (given_script given)) c.in-Err.refusal c.in-Err.ensures.refused c.refuse.ensures
+    without_row SOURCE Start c.args.words.now (λ given. DoesGiven (Sourcing c.args.depth) (given_script given)) c.in-Err.refusal c.in-Err.ensures.refused c.refuse.ensures
 
 pub do_source-returns-in-Err-script_given-clause-does : goal.do_source-returns-in-Err-script_given-clause-does
 do_source-returns-in-Err-script_given-clause-does g t c = lacked _ refusal.NoMemory refl c.refuse-in-Err-script_given.ensures
@@ -98,13 +99,13 @@ do_source-returns-in-Err-script_given-clause-does g t c = lacked _ refusal.NoMem
 pub do_source-returns-in-Some-clause-does : goal.do_source-returns-in-Some-clause-does
 do_source-returns-in-Some-clause-does g t c =
     let p = subst (λ s. Performs (DoesGiven (Sourcing c.args.depth) s) (at c.args.state.now (g.W.Outside.told c.args.world.now)) c.do_script.result (at c.do_script.new.state (g.W.Outside.told c.do_script.new.world))) (sym c.in-Some.is ∙ c.in-Ok-script_given.ensures) c.do_script.ensures.does in
-    with_row SOURCE c.args.words.now (λ given. DoesGiven (Sourcing c.args.depth) (given_script given)) c.in-Ok.given c.in-Ok.ensures.given p
+    with_row SOURCE Start c.args.words.now (λ given. DoesGiven (Sourcing c.args.depth) (given_script given)) c.in-Ok.given c.in-Ok.ensures.given p
 
 pub do_source-returns-clause-does : goal.do_source-returns-clause-does
 do_source-returns-clause-does g t c =
     let now = at c.args.state.now (g.W.Outside.told c.args.world.now) in
     let p = subst (λ s. Performs (DoesGiven (Sourcing c.args.depth) s) now ends.Went now) (sym c.in-None.is ∙ c.in-Ok-script_given.ensures) (went now) in
-    with_row SOURCE c.args.words.now (λ given. DoesGiven (Sourcing c.args.depth) (given_script given)) c.in-Ok.given c.in-Ok.ensures.given p
+    with_row SOURCE Start c.args.words.now (λ given. DoesGiven (Sourcing c.args.depth) (given_script given)) c.in-Ok.given c.in-Ok.ensures.given p
 
 pub do_words-returns-then-is_empty-clause-does : goal.do_words-returns-then-is_empty-clause-does
 do_words-returns-then-is_empty-clause-does g t c = words_none (Sourcing c.args.depth) c.args.words _ (grind arith)

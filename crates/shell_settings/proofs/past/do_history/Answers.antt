@@ -1,11 +1,12 @@
 use Rattle.std.proofs.Common.{sym}
-use Rattle.shell_settings.specs.declared.settings.TheConstants.{HISTORY}
+use Rattle.cmd_table.specs.declared.commands.TheConstants.{HISTORY}
+use Rattle.shell_world.specs.declared.phase.Phase.TheVariants.{Start}
 use Rattle.shell_world.proofs.Rowing.{with_row, without_row}
 use Rattle.shell_settings.specs.Settings.{ShowsWith}
 use Rattle.shell_settings.proofs.past.do_history.Goals as goal
 
 pub returns-in-Ok : goal.returns-in-Ok
-returns-in-Ok g c = with_row HISTORY c.args.words.now (λ given. ShowsWith given.rest) c.in-Ok.given c.in-Ok.ensures.given (rw (sym c.as_slice.ensures) c.show_with.ensures)
+returns-in-Ok g c = with_row HISTORY Start c.args.words.now (λ given. ShowsWith given.rest) c.in-Ok.given c.in-Ok.ensures.given (rw (sym c.as_slice.ensures) c.show_with.ensures)
 
 pub returns-in-Err : goal.returns-in-Err
-returns-in-Err g c = without_row HISTORY c.args.words.now (λ given. ShowsWith given.rest) c.in-Err.refusal c.in-Err.ensures.refused c.refuse.ensures
+returns-in-Err g c = without_row HISTORY Start c.args.words.now (λ given. ShowsWith given.rest) c.in-Err.refusal c.in-Err.ensures.refused c.refuse.ensures

@@ -1,10 +1,11 @@
-use Rattle.shell_settings.specs.declared.settings.TheConstants.{ALIAS}
+use Rattle.cmd_table.specs.declared.commands.TheConstants.{ALIAS}
+use Rattle.shell_world.specs.declared.phase.Phase.TheVariants.{Start}
 use Rattle.shell_world.proofs.Rowing.{with_row, without_row}
 use Rattle.shell_settings.specs.Settings.{AliasesWith}
 use Rattle.shell_settings.proofs.settings.do_alias.Goals as goal
 
 pub returns-in-Ok-clause-does : goal.returns-in-Ok-clause-does
-returns-in-Ok-clause-does g c = with_row ALIAS c.args.words.now (λ given. AliasesWith given.rest) c.in-Ok.given c.in-Ok.ensures.given c.alias_with.ensures.does
+returns-in-Ok-clause-does g c = with_row ALIAS Start c.args.words.now (λ given. AliasesWith given.rest) c.in-Ok.given c.in-Ok.ensures.given c.alias_with.ensures.does
 
 pub returns-in-Err-clause-does : goal.returns-in-Err-clause-does
-returns-in-Err-clause-does g c = without_row ALIAS c.args.words.now (λ given. AliasesWith given.rest) c.in-Err.refusal c.in-Err.ensures.refused c.refuse.ensures
+returns-in-Err-clause-does g c = without_row ALIAS Start c.args.words.now (λ given. AliasesWith given.rest) c.in-Err.refusal c.in-Err.ensures.refused c.refuse.ensures

@@ -1,11 +1,12 @@
 use Rattle.std.proofs.Common.{sym}
-use Rattle.shell_settings.specs.declared.settings.TheConstants.{SET}
+use Rattle.cmd_table.specs.declared.commands.TheConstants.{SET}
+use Rattle.shell_world.specs.declared.phase.Phase.TheVariants.{Start}
 use Rattle.shell_world.proofs.Rowing.{with_row, without_row}
 use Rattle.shell_settings.specs.Settings.{SetsWith}
 use Rattle.shell_settings.proofs.settings.do_set.Goals as goal
 
 pub returns-in-Ok-clause-does : goal.returns-in-Ok-clause-does
-returns-in-Ok-clause-does g c = with_row SET c.args.words.now (λ given. SetsWith given.rest) c.in-Ok.given c.in-Ok.ensures.given (rw (sym c.as_slice.ensures) c.set_with.ensures.does)
+returns-in-Ok-clause-does g c = with_row SET Start c.args.words.now (λ given. SetsWith given.rest) c.in-Ok.given c.in-Ok.ensures.given (rw (sym c.as_slice.ensures) c.set_with.ensures.does)
 
 pub returns-in-Err-clause-does : goal.returns-in-Err-clause-does
-returns-in-Err-clause-does g c = without_row SET c.args.words.now (λ given. SetsWith given.rest) c.in-Err.refusal c.in-Err.ensures.refused c.refuse.ensures
+returns-in-Err-clause-does g c = without_row SET Start c.args.words.now (λ given. SetsWith given.rest) c.in-Err.refusal c.in-Err.ensures.refused c.refuse.ensures
