@@ -23,6 +23,7 @@ mod state;
 mod telling;
 mod trace_event;
 mod words;
+mod work;
 mod world;
 
 pub use end::{End, Next};
@@ -38,4 +39,5 @@ pub use state::State;
 pub use telling::{end_saying, lack_memory, refuse, say, say_if, tell_event};
 pub use trace_event::TraceEvent;
 pub use words::{copy_of, join};
+pub use work::Work;
 pub use world::{Outside, World};
