@@ -27,7 +27,7 @@ mod work;
 mod world;
 
 pub use end::{End, Next};
-pub use event::{Event, Side};
+pub use event::{Event, Side, USAGE};
 pub use log_event::LogEvent;
 pub use phase::Phase;
 pub use reading::{read_file, read_line, refuse_file, store_file, write_file};
