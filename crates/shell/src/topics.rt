@@ -9,7 +9,8 @@ use crate::rows::{all_words, command_of};
 use cmd_table::commands;
 use outside::{Text, Words};
 use shell_world::{
-    End, Event, Listed, Outside, Phase, Refusal, Row, ShellEvent, State, Work, read_row, refuse, say,
+    End, Event, Listed, Outside, Phase, Refusal, Row, ShellEvent, State, Work, read_row, refuse,
+    say,
 };
 use std::alloc::Global;
 
