@@ -14,8 +14,8 @@ use Rattle.shell_world.specs.Scenes.{Moment, Told, at, goes_along}
 use Rattle.shell_world.specs.Written.{Performs}
 use Rattle.shell_world.proofs.Combining.{lacked_not}
 use Rattle.shell_world.proofs.Performing.{became, here, known, led, some, stopped}
-use Rattle.shell_model.specs.ModelCommands.{input_file, model_refusal}
-use Rattle.shell_model.specs.TraceCommands.{Executes, ExecutesFrom, ExecutesOnText, ExecutesWith, JudgesFile, JudgesText, TellsVerdict, with_model}
+use Rattle.shell_model.specs.ModelCommands.{input_file, model_refusal, with_model}
+use Rattle.shell_model.specs.TraceCommands.{Executes, ExecutesFrom, ExecutesOnText, ExecutesWith, JudgesFile, JudgesText, TellsVerdict}
 
 -- a text was judged
 pub judged : (program : Program) (text : List ℕ) (verdict : Verdict) {old new : Moment} {e : End} → Judges (bodies program) text verdict → Performs (TellsVerdict verdict) old e new → Performs (JudgesText false program text) old e new
