@@ -1,17 +1,11 @@
 -- Clauses that have one literal at most.
-use Rattle.std.proofs.Common.{◌≡◌, ◌≢◌, ℕ, ◌<◌, inl, inr, List, [], ◌∷◌, length, get_or, refl, sym, subst, ◌∙◌, arith}
+use Rattle.std.proofs.Common.{◌≡◌, ◌≢◌, ℕ, ◌<◌, inl, inr, List, [], ◌∷◌, length, get_or, refl, sym, ◌∙◌, arith}
 use Rattle.std.specs.Prelude.{Some}
-use Rattle.sat_log.specs.Literal.{Literal, negated}
-use Rattle.sat_log.specs.Clause.{Among, IsFalsified}
+use Rattle.sat_log.specs.Literal.{Literal}
+use Rattle.sat_log.specs.Clause.{Among}
 use Rattle.sat_log.specs.Accepted.{clause_at}
-use Rattle.sat_log.specs.Learned.{IsTrueUnder}
 use Rattle.sat_log.specs.declared.line.LogLine.{LogLine}
 use Rattle.sat_trail.specs.Units.{IsReason}
-
--- one that has none is false
-pub none_falsified : (set c : List Literal) → length c ≡ 0 → IsFalsified set c
-none_falsified set [] h = tt
-none_falsified set (a ∷ c) h = absurd (omega (arith, h))
 
 module _ (set c : List Literal) (l : Literal) (short : length c < 2) (first : l ≡ get_or c 0 l) where
   pub one_stands : length c ≢ 0 → Among c l
