@@ -217,7 +217,11 @@ random() {
                 a = variable()
                 do b = variable(); while (b == a)
                 do c = variable(); while (c == a || c == b)
-                print signed(a), signed(b), signed(c), 0
+                x = signed(a); y = signed(b); z = signed(c)
+                if (a > b) { v = a; a = b; b = v; v = x; x = y; y = v }
+                if (b > c) { v = b; b = c; c = v; v = y; y = z; z = v }
+                if (a > b) { v = x; x = y; y = v }
+                print x, y, z, 0
             }
         }'
 }
