@@ -25,10 +25,18 @@ impl Model for Session {
     ghost use Rattle.shell_world.specs.declared.state.State.{State};
     ghost use Rattle.smv_tree.specs.contracts.expr.Expr as expr;
     ghost use Rattle.smv_tree.specs.contracts.formula.Formula as formula;
+    ghost use Rattle.smv_flat.specs.contracts.flat_expr.FlatExpr as flat_expr;
+    ghost use Rattle.smv_flat.specs.contracts.flat_formula.FlatFormula as flat_formula;
 
     ghost Value = { State };
 
-    ghost coded = { Prim.hlevel (codes, expr.the_row.coded, formula.the_row.coded) };
+    ghost coded = { Prim.hlevel (
+      codes,
+      expr.the_row.coded,
+      formula.the_row.coded,
+      flat_expr.the_row.coded,
+      flat_formula.the_row.coded,
+    ) };
 
     ghost view = { λ s. s.state };
 }
