@@ -8,7 +8,8 @@ use Rattle.smv_rules.specs.Programs.{program}
 use Rattle.smv_rules.specs.Rules.{Rule}
 use Rattle.smv_rules.specs.Running.{run}
 use Rattle.smv_rules.specs.Sorts.{Gift, Sort, a_formula, an_expression, some_bodies}
-use Rattle.smv_rules.specs.Texts.{IsAll, claim_of, formula, tree_of}
+use Rattle.smv_rules.specs.Texts.{IsAll}
+use Rattle.smv_rules.specs.PartTexts.{claim_of, formula, tree_of}
 use Rattle.smv_rules.specs.Follows.{by_token, Leads, anywhere, at_depth}
 use Rattle.smv_rules.proofs.Deciding.{DecidesAll}
 use Rattle.smv_rules.proofs.Begun.{Late, expr_late, formula_late}

@@ -7,7 +7,7 @@ use Rattle.smv_tree.specs.Models.{atom, both}
 use Rattle.smv_token.specs.declared.mark.Mark.TheVariants as marks
 use Rattle.smv_token.specs.declared.token.Token.{Token}
 use Rattle.smv_grammar.specs.Forms.{deepest}
-use Rattle.smv_grammar.specs.Formulas.{closes, group, group_on, holds_temporal, is_temporal, joining, left_of, opens, outermost, right_of, rightward, role, role_of, start_of}
+use Rattle.smv_grammar.specs.Formulas.{closes, group, group_on, holds_temporal, is_temporal, joining, opens, outermost, rightward, role, role_of, start_of}
 use Rattle.smv_grammar.specs.IsMark.{is_mark}
 use Rattle.smv_rules.specs.Keys.{Unseen, begins_with, if_there, is_bracket, sees}
 use Rattle.smv_rules.specs.Keys as key

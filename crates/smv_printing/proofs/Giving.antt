@@ -15,7 +15,7 @@ use Rattle.smv_token.specs.declared.mark.Mark.TheVariants as marks
 use Rattle.smv_token.specs.declared.token.Token.{Token}
 use Rattle.smv_token.specs.declared.token.Lexeme.{Lexeme}
 use Rattle.smv_token.specs.declared.token.Lexeme.TheVariants as lexeme
-use Rattle.smv_grammar.specs.Forms.{begins_range, infix_of, left_level, operator_level}
+use Rattle.smv_grammar.specs.Forms.{begins_range, infix_of}
 use Rattle.smv_grammar.specs.Formulas.{Role, opens, closes, temporal, plain, group, group_on, holds_temporal, is_temporal, role, role_of, role_of_mark}
 use Rattle.smv_grammar.specs.IsMark.{is_mark}
 use Rattle.smv_rules.specs.Keys.{Key, Payload, Primary, begins_with, by_mark, if_there, mark_of, name_of, number_of, of_level, primary_by, primary_of, sees, with_place}
@@ -23,7 +23,7 @@ use Rattle.smv_rules.specs.Keys as key
 use Rattle.smv_rules.specs.Sorts.{Gift, Sort, an_expression, some_branches, some_names, some_operands}
 use Rattle.smv_rules.specs.Rules.{Part, Rule, gives, too_deep, must, may, part, then, again, expression, formula, inside, bits}
 use Rattle.smv_rules.proofs.Firsts.{is_mark_true}
-use Rattle.smv_printing.specs.Printing.{mark_of_two, path_head, right_level}
+use Rattle.smv_printing.specs.Printing.{mark_of_two, path_head, right_level, left_level, operator_level}
 use Rattle.smv_printing.specs.Scannables.{OwnName, OwnPath, OwnWord, Scannable, greatest}
 use Rattle.smv_printing.proofs.Fits.{AllFit, ArmsFit, Fits}
 

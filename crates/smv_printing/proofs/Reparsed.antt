@@ -5,7 +5,8 @@ use Rattle.smv_tree.specs.Trees.{Tree}
 use Rattle.smv_grammar.specs.Forms.{deepest}
 use Rattle.smv_rules.specs.Expressions.{expr}
 use Rattle.smv_rules.specs.Sorts.{Expression, Formula}
-use Rattle.smv_rules.specs.Texts.{SpellsBy, SpellsExpr, SpellsFormulaText, formula}
+use Rattle.smv_rules.specs.Texts.{SpellsBy}
+use Rattle.smv_rules.specs.PartTexts.{SpellsExpr, SpellsFormulaText, formula}
 use Rattle.smv_rules.proofs.PlainLaws.{expression_plain, formula_plain}
 use Rattle.smv_printing.specs.Alike.{Alike, AlikeClaims, Reparsed, ReparsedFormula}
 use Rattle.smv_printing.specs.declared.lead.Lead.TheVariants as lead

@@ -14,7 +14,8 @@ use Rattle.smv_token.specs.declared.mark.Mark.TheVariants as marks
 use Rattle.smv_token.specs.declared.token.Token.{Token}
 use Rattle.smv_token.specs.declared.token.Lexeme.{Lexeme}
 use Rattle.smv_token.specs.declared.token.Lexeme.TheVariants as lexeme
-use Rattle.smv_grammar.specs.Forms.{begins_range, infix_of, level_of}
+use Rattle.smv_grammar.specs.Forms.{begins_range, infix_of}
+use Rattle.smv_grammar.specs.Levels.{level_of}
 use Rattle.smv_grammar.specs.IsMark.{is_mark, same_mark}
 use Rattle.smv_reader.specs.declared.halt.Halt.{Halt}
 use Rattle.smv_reader.specs.declared.halt.Halt.TheVariants as halts

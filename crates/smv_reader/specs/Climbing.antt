@@ -8,7 +8,8 @@ use Rattle.smv_tree.specs.declared.expr.Op2.{Op2}
 use Rattle.smv_token.specs.declared.mark.Mark.{Mark}
 use Rattle.smv_token.specs.declared.mark.Mark.TheVariants as marks
 use Rattle.smv_token.specs.declared.token.Token.{Token}
-use Rattle.smv_grammar.specs.Forms.{begins_range, infix_of, level_of}
+use Rattle.smv_grammar.specs.Forms.{begins_range, infix_of}
+use Rattle.smv_grammar.specs.Levels.{level_of}
 use Rattle.smv_reader.specs.declared.halt.Halt.{Halt}
 use Rattle.smv_reader.specs.Halts.{Halts}
 use Rattle.smv_rules.specs.Reading.{Stop, wrong, ◌>>=◌, Got}

@@ -115,16 +115,6 @@ start = record { line = 1; column = 1 }
 abbrev pub after : Place → ℕ → Place
 after p b = if b == 10 then record { line = min (p.line + 1) 4294967295; column = 1 } else record { line = p.line; column = min (p.column + 1) 4294967295 }
 
-abbrev pub is_named : Piece → Bool
-is_named piece.Name = true
-is_named p = false
-
--- a piece is not empty and lies in its text, and a name has at most 255 bytes
-pub record Fits (bs : List ℕ) (k : ℕ × Piece) : Type 0 where
-  pub some : 1 ≤ k.0
-  pub within : k.0 ≤ length bs
-  pub short : is_named k.1 ≡ true → k.0 ≤ 255
-
 -- the token of a piece with these bytes, if it is one
 unfoldable pub token_of : Place → Piece → List ℕ → List Token
 token_of p piece.Gap bytes = []
