@@ -63,6 +63,7 @@ role_by key.number n = plain
 role_by key.primary o = primary_role o.0
 role_by key.minus p = plain
 role_by key.further p = plain
+role_by key.closing p = plain
 role_by (key.operator l) o = plain
 role_by k p = temporal
 
@@ -176,6 +177,10 @@ pub not_first : {X : Type 0} (b c : Bool) (x y : X) → cond b None (if_there c 
 not_first true c x y e = absurd (cc)
 not_first false c x y e = there c x y e
 
+at_first : {X : Type 0} (b c : Bool) (x y : X) → cond b (if_there c x) None ≡ Some y → c ≡ true
+at_first true c x y e = there c x y e
+at_first false c x y e = absurd (cc)
+
 abbrev first_of : {X : Type 0} → Option (X × Place) → Option X
 first_of None = None
 first_of (Some y) = Some y.0
@@ -227,6 +232,7 @@ role_seen key.number t ts p i Q e h = ap role_of (number_seen t.lexeme p e)
 role_seen key.primary t ts p i Q e h = primary_seen t.lexeme p.0 (placed (primary_of t.lexeme) t.place p e)
 role_seen key.minus t ts p i Q e h = mark_role marks.Minus t.lexeme (not_first (begins_range ts) (is_mark marks.Minus t.lexeme) t.place p e)
 role_seen key.further t ts p i Q e h = mark_role marks.Semicolon t.lexeme (not_first (begins_with marks.Esac ts) (is_mark marks.Semicolon t.lexeme) t.place p e)
+role_seen key.closing t ts p i Q e h = mark_role marks.Semicolon t.lexeme (at_first (begins_with marks.Esac ts) (is_mark marks.Semicolon t.lexeme) t.place p e)
 role_seen (key.operator l) t ts p i Q e h = (operator_seen t.lexeme l p.0 (levels_of l (by_mark infix_of (mark_of t.lexeme)) p.0 (placed (of_level l (by_mark infix_of (mark_of t.lexeme))) t.place p e))).0
 role_seen k t ts p i Q e h = absurd h
 
