@@ -15,12 +15,13 @@ use Rattle.smv_grammar.specs.IsMark.{is_mark}
 use Rattle.smv_grammar.specs.Formulas.{of_atom, start_at, start_of, joining_by, joining_of, holds_temporal}
 use Rattle.smv_rules.specs.Keys.{Heading, Key, Target, Unseen, by_mark, heading_by, if_there, is_bracket, mark_of, name_of, number_of, prefix_of, present, primary_by, sees, target_by, target_of, with_place, variables, definitions, assignments, constraints, properties, itself, of_moment}
 use Rattle.smv_rules.specs.Keys as key
-use Rattle.smv_rules.specs.Sorts.{a_shape, a_value, an_integer, some_bodies, some_formals, some_parts}
+use Rattle.smv_rules.specs.Follows.{Follows, plain}
+use Rattle.smv_rules.specs.Sorts.{Branches, a_shape, a_value, an_integer, some_bodies, some_branches, some_formals, some_parts}
 use Rattle.smv_rules.specs.Rules.{Rule, gives, again}
-use Rattle.smv_rules.specs.Expressions.{an_int, expr, level, optional}
+use Rattle.smv_rules.specs.Expressions.{an_int, branch, expr, level, optional}
 use Rattle.smv_rules.specs.Formulas.{formula_level}
 use Rattle.smv_rules.specs.Programs.{a_declared, a_property, a_type, actuals, all_assigned, an_elem, assigned, assigned_from, constrained, declared, defined, enumeration, formals, instantiated, interval, program, section_from, sections, sized, some_names, specified}
-use Rattle.smv_rules.proofs.Plain.{Begins, Clear, Seen, Starts, apart, clear_less}
+use Rattle.smv_rules.proofs.Plain.{Begins, Clear, Seen, Starts, apart, clear_less, starts_law}
 use Rattle.smv_rules.proofs.Firsts.{Closed, lexeme_level, number_no_mark, present_with, primary_no_mark, seen_closed, seen_is, seen_other, tail_level, unseen_by}
 use Rattle.smv_rules.proofs.ClearExpressions.{begins_starts, int_clear}
 use Rattle.smv_rules.proofs.ClearLevels.{expr_until, levels_clear, operands_until}
@@ -243,6 +244,11 @@ expr_no_mark : (k : Mark) (us : List Token) → (lexeme.Mark marks.Minus ≡ lex
 expr_no_mark k us d e p (inl s) = seen_other marks.Minus k us d (prefix_mark us s)
 expr_no_mark k us d e p (inr (inl s)) = seen_other marks.Bang k us e s
 expr_no_mark k us d e p (inr (inr s)) = primary_no_mark k us p s
+
+-- no branch of a case begins with its end
+pub branch_no_end : (n : ℕ) (bs : Branches) (ts rest : List Token) (x : Branches) → Follows plain n some_branches (branch bs) ts rest x → Unseen (key.mark marks.Esac) ts
+unfolding Starts level primary_by
+branch_no_end n bs ts rest x h = expr_no_mark marks.Esac ts (λ e. absurd (cc)) (λ e. absurd (cc)) refl (starts_law h (λ us. Unit {0}) (inl tt))
 
 -- instances
 actuals_clear : (n : ℕ) (m : List ℕ) (p : Place) (C : List Token → Type 0) → Clear n (actuals m p) C

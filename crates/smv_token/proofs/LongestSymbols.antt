@@ -1,12 +1,12 @@
 -- The first symbol of the list that stands at the front of bytes is the longest.
-use Rattle.std.proofs.Common.{◌≡◌, ◌≤◌, ◌⊎◌, ◌&&◌, ℕ, zero, suc, Bool, true, false, cond, List, [], ◌∷◌, Option, Some, None, length, refl, sym, ◌∙◌, inl, inr, subst, ap, arith}
+use Rattle.std.proofs.Common.{◌≡◌, ◌≤◌, ◌⊎◌, ◌&&◌, ℕ, zero, suc, Bool, true, false, cond, List, [], ◌∷◌, Option, Some, None, length, refl, sym, inl, inr, ap, arith}
 use Rattle.std.specs.Prelude.{nat_eq, nat_le}
 use Rattle.std.specs.List.{Contains, find, starts_with}
 use Rattle.std.proofs.lemmas.Bool.{leb-true}
 use Rattle.std.proofs.lemmas.List.Elements.{Contains-append_cases, Contains-append_right}
 use Rattle.smv_token.specs.declared.mark.Mark.{Mark}
 use Rattle.smv_token.specs.Marks.{symbol_at, symbols, text}
-use Rattle.smv_token.specs.LongestSymbol.{BeginsWith, IsLongest, Stands}
+use Rattle.smv_token.specs.LongestSymbol.{BeginsWith}
 
 abbrev len : Mark → ℕ
 len m = length (text m)

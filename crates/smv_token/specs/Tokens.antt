@@ -1,5 +1,5 @@
 -- The tokens of a text, and where each begins.
-use Rattle.std.specs.Prelude.{◌≡◌, ◌≤◌, ◌++◌, ◌+◌, ◌-◌, ◌^◌, ◌&&◌, ◌||◌, ◌==◌, ℕ, zero, suc, Bool, true, false, not, List, [], ◌∷◌, length, take, drop, min, Option, Some, None, Result, Ok, Err, if◌then◌else◌, nat_eq, nat_le, codes}
+use Rattle.std.specs.Prelude.{◌++◌, ◌+◌, ◌-◌, ◌^◌, ◌&&◌, ◌||◌, ◌==◌, ℕ, zero, suc, Bool, not, List, [], ◌∷◌, length, take, drop, min, Option, Some, None, Result, Ok, Err, if◌then◌else◌, nat_eq, nat_le, codes}
 use Rattle.std.specs.List.{prefix_len, starts_with}
 use Rattle.smv_tree.specs.declared.place.Place.{Place}
 use Rattle.smv_token.specs.declared.left_out.LeftOut.{LeftOut}
