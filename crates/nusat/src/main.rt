@@ -13,7 +13,7 @@ mod tests;
 
 use files::SystemFiles;
 use outside::{Text, Words, put_all};
-use shell::run_shell;
+use shell::{USAGE, run_shell};
 use sink::StreamSink;
 use source::StreamSource;
 use std::alloc::Global;
@@ -32,8 +32,6 @@ const SINK_FAILED: u8 = 4;
 
 /// The status of want of memory.
 const NO_MEMORY: u8 = 5;
-
-const USAGE: &[u8] = b"usage: nusat [-int] [-source file] [model.smv] | nusat -gen n\n";
 
 const OUT_OF_MEMORY: &[u8] = b"error 900: out of memory\n";
 

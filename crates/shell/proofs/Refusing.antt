@@ -14,8 +14,10 @@ use Rattle.shell_model.specs.declared.model_commands.ModelCommand.{ModelCommand}
 use Rattle.shell_model.specs.declared.trace_commands.TraceCommand.{TraceCommand}
 use Rattle.shell_model.specs.LogCommands.{DoesLog}
 use Rattle.shell_model.specs.ModelCommands.{DoesModel}
+use Rattle.shell_model.specs.Refused.{LogMayChange, ModelMayChange, TraceMayChange}
 use Rattle.shell_model.specs.TraceCommands.{DoesTrace}
 use Rattle.shell_settings.specs.declared.settings.SettingsCommand.{SettingsCommand}
+use Rattle.shell_settings.specs.Refused.{SettingsMayChange}
 use Rattle.shell_settings.specs.Settings.{DoesSettings}
 use Rattle.shell_world.specs.declared.end.End.{End}
 use Rattle.shell_world.specs.declared.end.End.TheVariants as ends
@@ -40,10 +42,10 @@ use Rattle.shell.specs.Topics.{HelpsLine, HelpsOn, HelpsWith, without_model}
 
 -- what the topics below say of their commands
 pub record TopicsKeep : Type 0 where
-  pub settings : (c : SettingsCommand) (words : List (List ℕ)) → KeepsRefused (DoesSettings c words)
-  pub log : (c : LogCommand) (words : List (List ℕ)) → KeepsRefused (DoesLog c words)
-  pub model : (c : ModelCommand) (words : List (List ℕ)) → KeepsRefused (DoesModel c words)
-  pub trace : (c : TraceCommand) (words : List (List ℕ)) → KeepsRefused (DoesTrace c words)
+  pub settings : (c : SettingsCommand) (words : List (List ℕ)) → KeepsRefused (SettingsMayChange c words) (DoesSettings c words)
+  pub log : (c : LogCommand) (words : List (List ℕ)) → KeepsRefused (LogMayChange c words) (DoesLog c words)
+  pub model : (c : ModelCommand) (words : List (List ℕ)) → KeepsRefused (ModelMayChange c words) (DoesModel c words)
+  pub trace : (c : TraceCommand) (words : List (List ℕ)) → KeepsRefused (TraceMayChange c words) (DoesTrace c words)
 
 -- `help`, `quit` and `reset`
 line_leaves : (line : List ℕ) → Always (HelpsLine line) Still
@@ -121,15 +123,15 @@ source_little depth words old events end new r p = given_row (by_row SOURCE Star
 
 -- a command changes nothing, or what it may
 pub named_little : TopicsKeep → (depth : ℕ) (c : Command) (words : List (List ℕ)) (old : Scene) (events : List Happening) (end : End) (new : Scene) → end ≡ ends.Refused → DoesNamed (Sourcing depth) c words old events end new → ChangesLittle depth c words old new
-named_little t depth (command.Settings c) words old events end new r p = inl (t.settings c words old events end new r p)
-named_little t depth (command.Model c) words old events end new r p = inl (t.model c words old events end new r p)
-named_little t depth (command.Trace c) words old events end new r p = inl (t.trace c words old events end new r p)
-named_little t depth (command.Log c) words old events end new r p = inl (t.log c words old events end new r p)
+named_little t depth (command.Settings c) words old events end new r p = t.settings c words old events end new r p
+named_little t depth (command.Model c) words old events end new r p = t.model c words old events end new r p
+named_little t depth (command.Trace c) words old events end new r p = t.trace c words old events end new r p
+named_little t depth (command.Log c) words old events end new r p = t.log c words old events end new r p
 named_little t depth (command.Shell own.Echo) words old events end new r p = echo_little words old events end new r p
 named_little t depth (command.Shell own.Help) words old events end new r p = inl (row_leave still_fact HELP Start words (λ given. HelpsWith given.rest) (λ given. help_leaves given.rest) old events end new p).kept
 named_little t depth (command.Shell own.Quit) words old events end new r p = inl (row_leave still_fact QUIT Start words (λ given. Ends ends.Quits) (λ given. ends_leave still_fact ends.Quits refl) old events end new p).kept
 named_little t depth (command.Shell own.Reset) words old events end new r p =
-    inl (guarded_refused (row_leave guards_fact RESET Start words (λ given. Becomes without_model) (λ given. becomes_guards without_model (λ s. refl))) old events end new r p)
+    guarded_refused (row_leave guards_fact RESET Start words (λ given. Becomes without_model) (λ given. becomes_guards without_model (λ s. refl))) old events end new r p
 named_little t depth (command.Shell own.Source) words old events end new r p = source_little depth words old events end new r p
 
 -- the same of a command of a line

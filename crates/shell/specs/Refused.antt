@@ -7,6 +7,8 @@ use Rattle.shell_lang.specs.declared.line.Piece.{Piece}
 use Rattle.shell_lang.specs.Filled.{Expands}
 use Rattle.shell_lang.specs.Lines.{Splits}
 use Rattle.shell_lang.specs.Recall.{recalled}
+use Rattle.shell_model.specs.Refused.{LogMayChange, ModelMayChange, TraceMayChange}
+use Rattle.shell_settings.specs.Refused.{SettingsMayChange}
 use Rattle.shell_world.specs.declared.end.End.TheVariants as ends
 use Rattle.shell_world.specs.Happenings.{Happening}
 use Rattle.shell_world.specs.Keeping.{IsKept, IsKeptBut}
@@ -15,6 +17,7 @@ use Rattle.shell_world.specs.Scenes.{Scene, goes_along}
 use Rattle.shell.specs.declared.rows.Command.{Command}
 use Rattle.shell.specs.declared.rows.Command.TheVariants as command
 use Rattle.shell.specs.declared.script.Script.{Script}
+use Rattle.shell.specs.declared.topics.ShellCommand.{ShellCommand}
 use Rattle.shell.specs.declared.topics.ShellCommand.TheVariants as own
 use Rattle.cmd_table.specs.declared.commands.TheConstants.{ECHO, SOURCE}
 use Rattle.shell.specs.Echo.{echo_file, echoed}
@@ -51,12 +54,20 @@ pub record RunsGiven (depth : ℕ) (words : List (List ℕ)) (old new : Scene) :
   pub named : given_script given ≡ Some script
   pub runs : RunsScriptLines depth script old new
 
--- what a refused command may have changed: `echo` a file, and `source` what its lines change; any other
--- nothing
+-- what a refused command of the shell itself may have changed: `echo` a file, and `source` what its
+-- lines change; any other nothing
+abbrev pub ShellMayChange : ℕ → ShellCommand → List (List ℕ) → Scene → Scene → Type 0
+ShellMayChange depth own.Echo words old new = BreaksFile words old new
+ShellMayChange depth own.Source words old new = RunsGiven depth words old new
+ShellMayChange depth other words old new = ⊥
+
+-- what a refused command may have changed, one case a topic
 abbrev pub MayChange : ℕ → Command → List (List ℕ) → Scene → Scene → Type 0
-MayChange depth (command.Shell own.Echo) words old new = BreaksFile words old new
-MayChange depth (command.Shell own.Source) words old new = RunsGiven depth words old new
-MayChange depth other words old new = ⊥
+MayChange depth (command.Settings c) words old new = SettingsMayChange c words old new
+MayChange depth (command.Model c) words old new = ModelMayChange c words old new
+MayChange depth (command.Trace c) words old new = TraceMayChange c words old new
+MayChange depth (command.Log c) words old new = LogMayChange c words old new
+MayChange depth (command.Shell c) words old new = ShellMayChange depth c words old new
 
 -- a refused command changed nothing, or what it may change
 abbrev pub ChangesLittle : ℕ → Command → List (List ℕ) → Scene → Scene → Type 0

@@ -8,7 +8,7 @@ use Rattle.shell_world.specs.declared.refusal.Refusal.TheVariants as refusal
 use Rattle.shell_world.specs.declared.state.State.{State}
 use Rattle.shell_world.specs.Processes.{Becomes, Each, Ends, ForSome, MayLack, Process, Refuses, Says, Where}
 use Rattle.shell_world.specs.Rows.{WithRow}
-use Rattle.shell_world.specs.Scenes.{goes_along}
+use Rattle.shell_world.specs.Scenes.{goes_along, no_work}
 use Rattle.shell.specs.declared.rows.Command.{Command}
 use Rattle.cmd_table.specs.declared.commands.TheConstants.{HELP, QUIT, RESET}
 use Rattle.shell.specs.Rows.{AreListed, command_of, help_of}
@@ -41,9 +41,9 @@ Helps words = WithRow HELP Start words (λ given. HelpsWith given.rest)
 abbrev pub Leaves : List (List ℕ) → Process
 Leaves words = WithRow QUIT Start words (λ given. Ends ends.Quits)
 
--- the model is dropped; variables, aliases and remembered lines stay
+-- the model is dropped, with what was worked out of it; variables, aliases and remembered lines stay
 abbrev pub without_model : State → State
-without_model state = record state { model = None; done = Start }
+without_model state = record state { model = None; done = Start; work = no_work }
 
 abbrev pub Resets : List (List ℕ) → Process
 Resets words = WithRow RESET Start words (λ given. Becomes without_model)

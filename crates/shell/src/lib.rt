@@ -22,5 +22,5 @@ pub use laws::{
 pub use rows::{Command, commands_are_listed};
 pub use run::{run_shell, run_sound};
 pub use session::Session;
-pub use shell_world::Next;
+pub use shell_world::{Next, USAGE};
 pub use topics::ShellCommand;

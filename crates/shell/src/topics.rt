@@ -9,7 +9,8 @@ use crate::rows::{all_words, command_of};
 use cmd_table::commands;
 use outside::{Text, Words};
 use shell_world::{
-    End, Event, Listed, Outside, Phase, Refusal, Row, ShellEvent, State, read_row, refuse, say,
+    End, Event, Listed, Outside, Phase, Refusal, Row, ShellEvent, State, Work, read_row, refuse,
+    say,
 };
 use std::alloc::Global;
 
@@ -197,17 +198,18 @@ pub(crate) fn do_reset<W: Outside>(
 {
     match read_row(alloc, state, &RESET, words) {
         Ok(_) => {
-            drop_model(state);
+            drop_model(alloc, state);
             End::Went
         }
         Err(refusal) => refuse(state, world, refusal),
     }
 }
 
-// Drops the model.
-fn drop_model(state: &mut State)
+// Drops the model, and what was worked out of it.
+fn drop_model(alloc: Global, state: &mut State)
     ensures { state.new ≡ without_model state.old }
 {
     state.model = None;
     state.done = Phase::Start;
+    state.work = Work::none(alloc);
 }

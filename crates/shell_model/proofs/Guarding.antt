@@ -26,8 +26,8 @@ use Rattle.shell_world.specs.Processes.{MayLack}
 use Rattle.shell_world.specs.Scenes.{goes_along}
 use Rattle.shell_world.specs.Steps.{WithFirst}
 use Rattle.shell_model.specs.LogCommands.{ChecksFile, ChecksText, DoesLog, TellsLog, log_limit}
-use Rattle.shell_model.specs.ModelCommands.{DoesModel, KeepsRead, ReadsBy, ReadsModel, ReadsNamed, TakesText, input_file, model_limit, model_refusal, named_by, with_read}
-use Rattle.shell_model.specs.TraceCommands.{DoesTrace, Executes, ExecutesFrom, ExecutesOn, ExecutesOnText, ExecutesWith, JudgesFile, JudgesText, TellsVerdict, has_changes, trace_limit, with_model}
+use Rattle.shell_model.specs.ModelCommands.{DoesModel, KeepsRead, ReadsBy, ReadsModel, ReadsNamed, TakesText, input_file, model_limit, model_refusal, named_by, with_model, with_read}
+use Rattle.shell_model.specs.TraceCommands.{DoesTrace, Executes, ExecutesFrom, ExecutesOn, ExecutesOnText, ExecutesWith, JudgesFile, JudgesText, TellsVerdict, has_changes, trace_limit}
 use Rattle.shell_world.specs.Keeping.{Always, tells_fault}
 use Rattle.shell_world.proofs.Keeping.{Guards, Still, becomes_guards, chain_leave, file_leave, first_leave, guards_fact, knowing_leave, may_lack_leave, refuses_leave, row_leave, says_leave, some_leave, still_fact, where_leave}
 

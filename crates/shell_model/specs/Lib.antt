@@ -1,3 +1,4 @@
 pub mod LogCommands
 pub mod ModelCommands
 pub mod TraceCommands
+pub mod Refused

@@ -13,6 +13,7 @@ use Rattle.shell_world.specs.declared.phase.Phase.TheVariants.{Read, Start}
 use Rattle.shell_world.specs.declared.refusal.Refusal.{Refusal}
 use Rattle.shell_world.specs.declared.refusal.Refusal.TheVariants as refusal
 use Rattle.shell_world.specs.declared.state.State.{State}
+use Rattle.shell_world.specs.Scenes.{no_work}
 use Rattle.shell_world.specs.Processes.{Becomes, ForSome, Knowing, MayLack, Process, Refuses, Where}
 use Rattle.shell_world.specs.Steps.{WithFile}
 use Rattle.shell_world.specs.Rows.{WithRow}
@@ -36,14 +37,14 @@ model_limit = 4194304
 abbrev pub input_file : State → Option (List ℕ)
 input_file state = at_name state.vars (codes "input_file")
 
--- the session keeps this model, and the variable names its file
+-- the session keeps this model, which was read, and of which nothing is worked out
+abbrev pub with_model : Program → State → State
+with_model program state = record state { model = Some program; done = Read; work = no_work }
+
+-- the same, and the variable names its file
 abbrev pub with_read : List ℕ → Program → State → State
 with_read file program state =
-    record state {
-      vars = with_name state.vars (codes "input_file") file;
-      model = Some program;
-      done = Read;
-    }
+    record (with_model program state) { vars = with_name state.vars (codes "input_file") file }
 
 -- what is said of a text that is no model
 abbrev pub model_refusal : ModelFault → Refusal

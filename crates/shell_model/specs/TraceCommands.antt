@@ -10,13 +10,13 @@ use Rattle.bool_replay.specs.declared.verdict.Verdict.TheVariants as verdict
 use Rattle.bool_replay.specs.Verdicts.{Judges, ModelOf}
 use Rattle.shell_world.specs.declared.event.Event.TheVariants.{Trace}
 use Rattle.shell_world.specs.declared.trace_event.TraceEvent.TheVariants.{Executed, Stops}
-use Rattle.shell_world.specs.declared.phase.Phase.TheVariants.{Read, Start}
+use Rattle.shell_world.specs.declared.phase.Phase.TheVariants.{Start}
 use Rattle.shell_world.specs.declared.refusal.Refusal.TheVariants as refusal
 use Rattle.shell_world.specs.declared.state.State.{State}
 use Rattle.shell_world.specs.Processes.{Becomes, ForSome, Knowing, MayLack, Process, Refuses, Says, Then, Where}
 use Rattle.shell_world.specs.Steps.{WithFile, WithFirst}
 use Rattle.shell_world.specs.Rows.{WithRow}
-use Rattle.shell_model.specs.ModelCommands.{input_file, model_limit, model_refusal}
+use Rattle.shell_model.specs.ModelCommands.{input_file, model_limit, model_refusal, with_model}
 use Rattle.shell_model.specs.declared.trace_commands.TraceCommand.{TraceCommand}
 use Rattle.shell_model.specs.declared.trace_commands.TraceCommand.TheVariants as command
 use Rattle.cmd_table.specs.declared.commands.TheConstants.{EXECUTE_TEXT_TRACE}
@@ -32,10 +32,6 @@ trace_help command.ExecuteTextTrace = codes "execute_text_trace [-c] file"
 -- a trace has at most so many bytes
 abbrev pub trace_limit : ℕ
 trace_limit = 4194304
-
--- the session keeps this model, which was read
-abbrev pub with_model : Program → State → State
-with_model program state = record state { model = Some program; done = Read }
 
 abbrev pub TellsVerdict : Verdict → Process
 TellsVerdict (verdict.Executed n) = Says (Trace (Executed n))

@@ -5,13 +5,17 @@ ghost use Rattle.shell_model.specs.declared.model_commands.ModelCommand.{ModelCo
 ghost use Rattle.shell_model.specs.declared.trace_commands.TraceCommand.{TraceCommand};
 ghost use Rattle.shell_model.specs.LogCommands.{DoesLog};
 ghost use Rattle.shell_model.specs.ModelCommands.{DoesModel};
+ghost use Rattle.shell_model.specs.Refused.{LogMayChange, ModelMayChange, TraceMayChange};
 ghost use Rattle.shell_model.specs.TraceCommands.{DoesTrace};
 
-/// A refused command changes nothing, neither what the session keeps nor a file.
+/// A refused command changes nothing that the session keeps, and no file, but what it may.
 pub fn refused_command_changes_nothing()
-    ensures log { (c : LogCommand) (words : List (List ℕ)) → KeepsRefused (DoesLog c words) }
-    ensures model { (c : ModelCommand) (words : List (List ℕ)) → KeepsRefused (DoesModel c words) }
-    ensures trace { (c : TraceCommand) (words : List (List ℕ)) → KeepsRefused (DoesTrace c words) }
+    ensures log { (c : LogCommand) (words : List (List ℕ)) →
+        KeepsRefused (LogMayChange c words) (DoesLog c words) }
+    ensures model { (c : ModelCommand) (words : List (List ℕ)) →
+        KeepsRefused (ModelMayChange c words) (DoesModel c words) }
+    ensures trace { (c : TraceCommand) (words : List (List ℕ)) →
+        KeepsRefused (TraceMayChange c words) (DoesTrace c words) }
 {}
 
 /// A command reads no input, and tells a fault of the files only where their count rises.

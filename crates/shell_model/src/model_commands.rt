@@ -5,14 +5,14 @@ ghost use Rattle.shell_lang.specs.Keyed.{with_name};
 ghost use Rattle.shell_world.specs.Processes.{Becomes, MayLack};
 ghost use Rattle.shell_world.specs.Steps.{WithFile};
 ghost use Rattle.shell_world.specs.Outsides.{Does};
-ghost use Rattle.shell_model.specs.ModelCommands.{DoesModel, DoesReadModel, ReadsBy, ReadsModel, ReadsNamed, TakesText, input_file, model_limit, model_refusal, named_by, with_read};
+ghost use Rattle.shell_model.specs.ModelCommands.{DoesModel, DoesReadModel, ReadsBy, ReadsModel, ReadsNamed, TakesText, input_file, model_limit, model_refusal, named_by, with_model, with_read};
 
 use bool_replay::{BoolModel, ModelFault};
 use cmd_table::{Given, OptFault, commands};
 use outside::{Text, Words};
 use shell_lang::Vars;
 use shell_world::{
-    End, Listed, Outside, Phase, Refusal, Row, State, copy_of, read_file, read_row, refuse,
+    End, Listed, Outside, Phase, Refusal, Row, State, Work, copy_of, read_file, read_row, refuse,
     refuse_file,
 };
 use std::alloc::{AllocError, Global};
@@ -88,6 +88,15 @@ pub fn set_input_file(alloc: Global, vars: &mut Vars, file: &Text) -> Result<(),
     }
 }
 
+/// Keeps a model that was read.
+pub(crate) fn take_model(alloc: Global, state: &mut State, model: BoolModel)
+    ensures { state.new ≡ with_model model state.old }
+{
+    state.model = Some(model);
+    state.done = Phase::Read;
+    state.work = Work::none(alloc);
+}
+
 /// Keeps a model that was read, and names its file.
 fn keep_read<W: Outside>(
     alloc: Global,
@@ -101,8 +110,7 @@ fn keep_read<W: Outside>(
 {
     match set_input_file(alloc, &mut state.vars, file) {
         Ok(()) => {
-            state.model = Some(model);
-            state.done = Phase::Read;
+            take_model(alloc, state, model);
             End::Went
         }
         Err(AllocError) => refuse(state, world, Refusal::NoMemory),

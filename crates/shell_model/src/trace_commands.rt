@@ -3,10 +3,10 @@ ghost use Rattle.std.specs.Prelude.{◌≡◌, ◌≤◌, false, length, Some};
 ghost use Rattle.shell_world.specs.Processes.{Becomes, MayLack, Then};
 ghost use Rattle.shell_world.specs.Steps.{WithFirst};
 ghost use Rattle.shell_world.specs.Outsides.{Does};
-ghost use Rattle.shell_model.specs.ModelCommands.{input_file};
-ghost use Rattle.shell_model.specs.TraceCommands.{DoesExecute, DoesTrace, Executes, ExecutesFrom, ExecutesOnText, JudgesFile, JudgesText, TellsVerdict, has_changes, with_model};
+ghost use Rattle.shell_model.specs.ModelCommands.{input_file, with_model};
+ghost use Rattle.shell_model.specs.TraceCommands.{DoesExecute, DoesTrace, Executes, ExecutesFrom, ExecutesOnText, JudgesFile, JudgesText, TellsVerdict, has_changes};
 
-use crate::model_commands::{MODEL_LIMIT, model_refusal};
+use crate::model_commands::{MODEL_LIMIT, model_refusal, take_model};
 use bool_replay::{BoolModel, Verdict};
 use cmd_table::{Given, commands};
 use outside::{Text, Words};
@@ -146,8 +146,7 @@ fn execute_on<W: Outside>(
     if !state.goes_along(end) {
         return end;
     }
-    state.model = Some(model);
-    state.done = Phase::Read;
+    take_model(alloc, state, model);
     End::Went
 }
 

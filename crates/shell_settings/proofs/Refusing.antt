@@ -9,6 +9,7 @@ use Rattle.shell_settings.specs.declared.settings.SettingsCommand.{SettingsComma
 use Rattle.shell_settings.specs.declared.settings.SettingsCommand.TheVariants as command
 use Rattle.cmd_table.specs.declared.commands.TheConstants.{ALIAS, HISTORY, SET, UNALIAS, UNSET}
 use Rattle.shell_world.specs.declared.phase.Phase.TheVariants.{Start}
+use Rattle.shell_settings.specs.Refused.{SettingsMayChange}
 use Rattle.shell_settings.specs.Settings.{AliasesWith, Alters, DoesSettings, DropsAlias, ListsAlias, ListsAliases, ListsValues, RefusesOr, SetsWith, ShowsAlias, ShowsLast, ShowsLine, ShowsMost, ShowsNamed, ShowsValue, ShowsWith, TakesBack}
 use Rattle.shell_world.specs.declared.end.End.TheVariants as ends
 use Rattle.shell_world.specs.declared.state.State.{State}
@@ -71,7 +72,7 @@ settings_guard command.Set words = row_leave guards_fact SET Start words (λ giv
 settings_guard command.Unalias words = row_leave guards_fact UNALIAS Start words (λ given. WithFirst DropsAlias given.rest) (λ given. first_leave guards_fact DropsAlias given.rest (λ name. alters_guard _ _ _ (λ s. refl)))
 settings_guard command.Unset words = row_leave guards_fact UNSET Start words (λ given. WithFirst TakesBack given.rest) (λ given. first_leave guards_fact TakesBack given.rest (λ name. alters_guard _ _ _ (λ s. refl)))
 
-pub settings_refused : (c : SettingsCommand) (words : List (List ℕ)) → KeepsRefused (DoesSettings c words)
+pub settings_refused : (c : SettingsCommand) (words : List (List ℕ)) → KeepsRefused (SettingsMayChange c words) (DoesSettings c words)
 settings_refused c words = guarded_refused (settings_guard c words)
 
 pub settings_caused : (c : SettingsCommand) (words : List (List ℕ)) → Always (DoesSettings c words) IsCaused

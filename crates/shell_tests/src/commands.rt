@@ -18,6 +18,10 @@ fn keeps_settings(rt: HostRuntime) -> Result<(), AllocError> {
         ),
         ("set bmc_loopback -1; echo x$bmc_loopback", "x-1\n0"),
         (
+            "set bmc_loopback -1\ncheck_ltlspec_bmc -k 1",
+            "error 641: check_ltlspec_bmc is no command\n0",
+        ),
+        (
             "set conflict_budget 0\nset conflict_budget 1",
             "error 636: conflict_budget: illegal value\n0",
         ),

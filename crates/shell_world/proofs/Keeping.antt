@@ -26,7 +26,7 @@ use Rattle.shell_world.specs.declared.refusal.Refusal.{Refusal}
 use Rattle.shell_world.specs.declared.refusal.Refusal.TheVariants as refusal
 use Rattle.shell_world.specs.declared.state.State.{State}
 use Rattle.shell_world.specs.Happenings.{Asked, Happening, tells}
-use Rattle.shell_world.specs.Keeping.{Always, IsCaused, IsKept, KeepsRefused, KeepsRefusedBut, is_inner, last_count, tells_fault}
+use Rattle.shell_world.specs.Keeping.{Always, IsCaused, IsKept, IsKeptBut, KeepsRefused, is_inner, last_count, tells_fault}
 use Rattle.shell_world.specs.Phases.{missing, phase_of, too_early}
 use Rattle.shell_world.specs.Processes.{Asks, Becomes, Chain, Each, Either, Ends, EndsSaying, ForSome, Knowing, MayLack, Process, Refuses, Where}
 use Rattle.shell_world.specs.Rows.{AfterRow, ByRow, Gives, WithRow, given_unless}
@@ -121,8 +121,8 @@ caused_fact = record {
 }
 
 -- what a topic's law says of a refusal, and of causes
-pub guarded_refused : {P : Process} → Always P Guards → KeepsRefused P
-guarded_refused g old events end new r p = (g old events end new p).refused r
+pub guarded_refused : {May : Scene → Scene → Type 0} {P : Process} → Always P Guards → KeepsRefused May P
+guarded_refused g old events end new r p = inl ((g old events end new p).refused r)
 
 pub guarded_caused : {P : Process} → Always P Guards → Always P IsCaused
 guarded_caused g old events end new p = (g old events end new p).caused
@@ -379,7 +379,7 @@ broke_off name bytes faults.NotThere old new w = absurd w
 broke_off name bytes (faults.TooLong n) old new w = absurd w
 
 -- a file that is refused may have a front of its bytes
-pub stores_refused : (name bytes : List ℕ) → KeepsRefusedBut name bytes (Stores name bytes)
+pub stores_refused : (name bytes : List ℕ) (old : Scene) (events : List Happening) (end : End) (new : Scene) → end ≡ ends.Refused → Stores name bytes old events end new → IsKeptBut name bytes old new
 unfolding ForSome Chain WritesWhole Ends
 stores_refused name bytes old events end new r (answer, inl p) = absurd (refused_not_went r p.first.ended)
 stores_refused name bytes old events end new r (Ok u, inr p) = absurd (refused_not_went r p.second.ended)

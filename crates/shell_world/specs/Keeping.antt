@@ -1,5 +1,5 @@
 -- What a process leaves as it was: where it is refused, and always.
-use Rattle.std.specs.Prelude.{◌≡◌, ◌<◌, ◌≤◌, ℕ, Bool, true, false, List}
+use Rattle.std.specs.Prelude.{◌≡◌, ◌⊎◌, ◌<◌, ◌≤◌, ℕ, Bool, true, false, List}
 use Rattle.std.specs.List.{list_any}
 use Rattle.outside.specs.declared.source.LineFault.TheVariants.{ReadFault}
 use Rattle.outside.specs.Disk.{BreaksOff}
@@ -24,17 +24,11 @@ pub record IsKeptBut (name bytes : List ℕ) (old new : Scene) : Type 0 where
   pub input : new.input ≡ old.input
   pub held : BreaksOff name bytes old.disk.held new.disk.held
 
--- all is as before where a process ends refused
-abbrev pub KeepsRefused : Process → Type 0
-KeepsRefused P =
+-- where a process ends refused, all is as before, or changed as it may be
+abbrev pub KeepsRefused : (Scene → Scene → Type 0) → Process → Type 0
+KeepsRefused MayChange P =
     (old : Scene) (events : List Happening) (end : End) (new : Scene) → end ≡ ends.Refused
-    → P old events end new → IsKept old new
-
--- all but a file is
-abbrev pub KeepsRefusedBut : List ℕ → List ℕ → Process → Type 0
-KeepsRefusedBut name bytes P =
-    (old : Scene) (events : List Happening) (end : End) (new : Scene) → end ≡ ends.Refused
-    → P old events end new → IsKeptBut name bytes old new
+    → P old events end new → IsKept old new ⊎ MayChange old new
 
 -- a fault of the files or of the input is told
 abbrev pub tells_fault : Happening → Bool

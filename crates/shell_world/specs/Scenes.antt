@@ -13,10 +13,31 @@ use Rattle.shell_world.specs.declared.end.Next.{Next}
 use Rattle.shell_world.specs.declared.end.Next.TheVariants.{Go, Stop}
 use Rattle.shell_world.specs.declared.phase.Phase.TheVariants.{Start}
 use Rattle.shell_world.specs.declared.state.State.{State}
+use Rattle.shell_world.specs.declared.work.Work.{Work}
+use Rattle.trace_store.specs.Stored.{nothing_stored}
 
 -- a session that was not told anything yet
+-- nothing is worked out of a model
+abbrev pub no_work : Work
+no_work = record {
+  flat = None;
+  traces = nothing_stored;
+  gates = None;
+  log = None;
+  frames = 0;
+  bound = None;
+  gained = 0;
+}
+
 abbrev pub fresh : State
-fresh = record { vars = defaults; aliases = []; past = no_past; model = None; done = Start }
+fresh = record {
+  vars = defaults;
+  aliases = [];
+  past = no_past;
+  model = None;
+  done = Start;
+  work = no_work;
+}
 
 -- what the four objects outside tell, and which objects they are
 pub record Told : Type 0 where

@@ -24,6 +24,9 @@ pub enum Event {
     Usage,
 }
 
+/// The line of words of another form.
+pub const USAGE: &[u8] = b"usage: nusat [-int] [-source file] [model.smv] | nusat -gen n\n";
+
 impl Event {
     /// Where the text is written.
     pub fn side(&self) -> Side
@@ -50,10 +53,7 @@ impl Event {
             Event::Log(event) => event.print(out),
             Event::Trace(event) => event.print(out),
             Event::Refused(refusal) => refusal.print(out),
-            Event::Usage => put_all(
-                out,
-                b"usage: nusat [-int] [-source file] [model.smv] | nusat -gen n\n",
-            ),
+            Event::Usage => put_all(out, USAGE),
         }
     }
 }

@@ -23,10 +23,11 @@ mod state;
 mod telling;
 mod trace_event;
 mod words;
+mod work;
 mod world;
 
 pub use end::{End, Next};
-pub use event::{Event, Side};
+pub use event::{Event, Side, USAGE};
 pub use log_event::LogEvent;
 pub use phase::Phase;
 pub use reading::{read_file, read_line, refuse_file, store_file, write_file};
@@ -38,4 +39,5 @@ pub use state::State;
 pub use telling::{end_saying, lack_memory, refuse, say, say_if, tell_event};
 pub use trace_event::TraceEvent;
 pub use words::{copy_of, join};
+pub use work::Work;
 pub use world::{Outside, World};

@@ -1,7 +1,7 @@
 ghost use Rattle.std.specs.Prelude.{◌≡◌, IfOk};
 ghost use Rattle.shell_world.specs.Scenes.{is_set};
 
-use crate::{End, Next, Phase, Refusal};
+use crate::{End, Next, Phase, Refusal, Work};
 use bool_replay::BoolModel;
 use outside::read_number;
 use shell_lang::{Aliases, History, Vars};
@@ -20,6 +20,8 @@ pub struct State {
     pub model: Option<BoolModel>,
     /// The last phase that was done with the model.
     pub done: Phase,
+    /// What was worked out of the model.
+    pub work: Work,
 }
 
 /// Whether a variable's text says yes: it is empty, or the number 1.
@@ -53,6 +55,7 @@ impl State {
             past: History::new(alloc)?,
             model: None,
             done: Phase::Start,
+            work: Work::none(alloc),
         })
     }
 

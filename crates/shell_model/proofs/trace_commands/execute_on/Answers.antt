@@ -7,4 +7,4 @@ returns-then-not-goes_along g c = executed_not c.args.changes c.args.model c.arg
 
 pub returns : goal.returns
 returns g c =
-    executed c.args.changes c.args.model c.args.name.now c.args.state.now _ (g.W.Outside.told c.args.world.now) _ c.judge_file-end.result c.judge_file-end.ensures (sym c.goes_along.ensures ∙ c.if-not-goes_along.false) refl
+    executed c.args.changes c.args.model c.args.name.now c.args.state.now _ (g.W.Outside.told c.args.world.now) _ c.judge_file-end.result c.judge_file-end.ensures (sym c.goes_along.ensures ∙ c.if-not-goes_along.false) c.take_model.ensures
