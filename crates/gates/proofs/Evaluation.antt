@@ -1,6 +1,6 @@
 -- The valuation that inputs give.
 use Rattle.std.proofs.Common.{◌≡◌, ℕ, zero, suc, ◌+◌, ◌<◌, ◌≤◌, Bool, false, cond, ◌&&◌, not, List, [], ◌∷◌, ◌++◌, length, drop, refl, sym, ap, ◌∙◌, subst, arith, ⊎_elim}
-use Rattle.std.proofs.lemmas.List.{length_push, get_or_append_left, get_or_push, drop_more, drop_all}
+use Rattle.std.proofs.lemmas.List.{length_push, get_or_append_left, get_or_push, drop_all}
 use Rattle.std.proofs.lemmas.Bool.{cases_lt}
 use Rattle.gates.specs.Literal.{Literal}
 use Rattle.gates.specs.declared.node.Node.{Node}
@@ -108,13 +108,6 @@ module _ (nodes : List Node) (u v : List Bool) (well : WellFormed nodes) (first 
 
   pub valuations_agree : (n : ℕ) → n < length nodes → value_at u n ≡ value_at v n
   valuations_agree = same_below (length nodes) (omega arith)
-
--- a step of the loop over the nodes
-pub values_after-more : (values : List Bool) (nodes : List Node) (inputs : List Bool) (n : ℕ) → n < length nodes → length values ≡ n
-    → values_after values (drop n nodes) inputs ≡ values_after (values ++ next_value values (node_at nodes n) (value_at inputs n) ∷ []) (drop (n + 1) nodes) inputs
-values_after-more values nodes inputs n h e =
-    ap (λ rest. values_after values rest inputs) (drop_more nodes n True h)
-    ∙ ap (λ m. values_after (values ++ next_value values (node_at nodes n) (value_at inputs m) ∷ []) (drop (n + 1) nodes) inputs) e
 
 pub values_after-all : (values : List Bool) (nodes : List Node) (inputs : List Bool) (n : ℕ) → length nodes ≤ n → values_after values (drop n nodes) inputs ≡ values
 values_after-all values nodes inputs n h = ap (λ rest. values_after values rest inputs) (drop_all n nodes h)

@@ -1,5 +1,5 @@
 -- How lists of nodes grow, and what stays when they do.
-use Rattle.std.proofs.Common.{◌≡◌, ℕ, ◌<◌, ◌≤◌, zero, suc, List, [], ◌∷◌, ◌++◌, length, get_or, take, refl, sym, ap, ◌∙◌, subst, append_assoc, arith, ⊎_elim, Result, Ok, Err, OnOk, IsTrue}
+use Rattle.std.proofs.Common.{◌≡◌, ℕ, ◌<◌, zero, suc, List, [], ◌∷◌, ◌++◌, length, get_or, take, refl, sym, ap, ◌∙◌, subst, append_assoc, arith, ⊎_elim, Result, Ok, Err, OnOk, IsTrue}
 use Rattle.std.specs.Prelude.{OnErr}
 use Rattle.std.specs.List.{AllByRecursion}
 use Rattle.std.proofs.lemmas.List.{append-nil, length-append, take_at, take-take, take_all, get_or_append_left, get_or-take, get_or_push, length_push}
@@ -71,7 +71,3 @@ pub node-lt-span : (ls : List Literal) (k : ℕ) (d : Literal) → k < length ls
 node-lt-span [] k d h = absurd (omega (arith, h))
 node-lt-span (l ∷ ls) zero d h = omega arith
 node-lt-span (l ∷ ls) (suc k) d h = omega (arith, node-lt-span ls k d (omega (arith, h)))
-
-pub span-le : (ls : List Literal) (n : ℕ) → ((k : ℕ) (d : Literal) → k < length ls → (get_or ls k d).node < n) → span ls ≤ n
-span-le [] n each = omega arith
-span-le (l ∷ ls) n each = omega (arith, each 0 l (omega arith), span-le ls n (λ k d h. each (suc k) d (omega (arith, h))))

@@ -1,12 +1,11 @@
 -- What a conjunction's literal means, and that the pair finds it again.
-use Rattle.std.proofs.Common.{◌≡◌, ◌≢◌, ℕ, ◌+◌, ◌*◌, ◌<◌, Bool, true, false, cond, eqb, ltb, ◌&&◌, not, List, [], ◌∷◌, ◌++◌, length, drop, Option, None, Some, Result, Ok, Err, IfSome, IfOk, OnOk, refl, sym, ap, ◌∙◌, subst, arith, ⊎_elim}
+use Rattle.std.proofs.Common.{◌≡◌, ◌≢◌, ℕ, ◌+◌, ◌*◌, ◌/◌, ◌%◌, ◌<◌, Bool, true, false, cond, eqb, ltb, ◌&&◌, not, List, [], ◌∷◌, ◌++◌, length, drop, Option, None, Some, Result, Ok, Err, IfSome, IfOk, OnOk, refl, sym, ap, ◌∙◌, subst, arith, ⊎_elim}
 use Rattle.std.specs.List.{position_from}
 use Rattle.std.specs.Option.{option_map, option_or}
 use Rattle.std.proofs.lemmas.List.{take-append-drop}
 use Rattle.std.proofs.lemmas.Bool.{cases_lt, false≢true, eqb-true, eqb-false, eq-eqb, lt-ltb, le-ltb, and_parts}
 use Rattle.std.proofs.lemmas.Bool.Decides.{nat_tests}
-use Rattle.gates.specs.Literal.{Literal, code_of, negated, positive, always, never}
-use Rattle.gates.specs.Codes.{same_literal}
+use Rattle.gates.specs.Literal.{Literal, literal_of, code_of, negated, positive, always, never}
 use Rattle.gates.specs.declared.node.Node.{Node}
 use Rattle.gates.specs.declared.node.Node.TheVariants.{True, Input, And}
 use Rattle.gates.specs.Nodes.{node_at, StandsAt, WellFormed, Grows, Belongs}
@@ -39,11 +38,6 @@ value_of-negated values l = by l.negative (value_at values l.node)
     by true false = refl
     by false true = refl
     by false false = refl
-
--- the value of a literal that is not negated
-pub value_of-positive : (values : List Bool) (n : ℕ) → value_of values (positive n) ≡ value_at values n
-unfolding value_of
-value_of-positive values n = refl
 
 -- how `simplified` goes, by cases on the two literals
 data Simplifies (a b : Literal) : Option Literal → Type 0 where
@@ -81,6 +75,28 @@ by_node a b false e = by_first a b (eqb-false a.node b.node e) (eqb a.node 0) re
 
 simplifies : (a b : Literal) → Simplifies a b (simplified a b)
 simplifies a b = by_node a b (eqb a.node b.node) refl
+
+-- a literal is kept by its number
+half-code_of : (l : Literal) → code_of l / 2 ≡ l.node
+half-code_of l = by l.negative
+  where
+    by : (b : Bool) → (2 * l.node + cond b 1 0) / 2 ≡ l.node
+    by true = omega arith
+    by false = omega arith
+
+odd-code_of : (l : Literal) → eqb (code_of l % 2) 1 ≡ l.negative
+odd-code_of l = by l.negative
+  where
+    by : (b : Bool) → eqb ((2 * l.node + cond b 1 0) % 2) 1 ≡ b
+    by true = grind (arith, nat_tests)
+    by false = grind (arith, nat_tests)
+
+literal_of-code_of : (l : Literal) → literal_of (code_of l) ≡ l
+literal_of-code_of l i = record { node = half-code_of l i; negative = odd-code_of l i }
+
+-- literals of one number are one
+same_literal : (a b : Literal) → code_of a ≡ code_of b → a ≡ b
+same_literal a b e = sym (literal_of-code_of a) ∙ ap literal_of e ∙ literal_of-code_of b
 
 pub same_from_is_same : (a b : Literal) → is_same a b ≡ true → a ≡ b
 same_from_is_same a b e = same_literal a b (eqb-true (code_of a) (code_of b) e)
@@ -301,9 +317,6 @@ Stands-push nodes a b none = record {
   forwards = conjunction-push nodes a b none;
   backwards = sym (conjunction-turned (nodes ++ And (earlier a b) (later a b) ∷ []) a b) ∙ conjunction-push nodes a b none;
 }
-
-pub Stands-known : (nodes : List Node) (a b l : Literal) → Some l ≡ conjunction nodes a b → Stands nodes a b l
-Stands-known nodes a b l h = record { forwards = sym h; backwards = sym (h ∙ conjunction-turned nodes a b) }
 
 -- the pair of a conjunction that nothing stands for is not found
 pub lookup-absent : (nodes : List Node) (a b x y : Literal) (entries : List ((Literal × Literal) × Literal))

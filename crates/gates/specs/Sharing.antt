@@ -9,7 +9,8 @@ use Rattle.gates.specs.declared.node.Node.TheVariants.{True, Input, And}
 abbrev pub is_same : Literal → Literal → Bool
 is_same a b = code_of a == code_of b
 
--- the conjunction of two literals where they are of one node, or one is a constant: no node is needed
+-- the conjunction of two literals where they are of one node, or one is a constant: no node is
+-- needed
 abbrev pub simplified : Literal → Literal → Option Literal
 simplified a b =
     if a.node == b.node then Some (if is_same a b then a else never)
@@ -43,7 +44,8 @@ pub record Stands (nodes : List Node) (a b l : Literal) : Type 0 where
   pub forwards : conjunction nodes a b ≡ Some l
   pub backwards : conjunction nodes b a ≡ Some l
 
--- the conjunctions among the nodes, by their parts, with their positive literals, where the first node has the number n
+-- the conjunctions among the nodes, by their parts, with their positive literals, where the first
+-- node has the number n
 abbrev pub pairs_from : ℕ → List Node → List ((Literal × Literal) × Literal)
 pairs_from n [] = []
 pairs_from n (True ∷ nodes) = pairs_from (n + 1) nodes

@@ -1,8 +1,8 @@
-ghost use Rattle.std.specs.Prelude.{◌≡◌, ℕ, ◌+◌, ◌^◌, ◌<◌, ◌≤◌, Bool, ◌&&◌, [], ◌∷◌, ◌++◌, List, length, take, count_by, Option, None, Some, Ok, IfSome, IfOk, OnOk, OnErr};
+ghost use Rattle.std.specs.Prelude.{◌≡◌, ℕ, ◌+◌, ◌^◌, ◌<◌, ◌≤◌, ◌&&◌, [], ◌∷◌, ◌++◌, List, length, take, count_by, Option, None, Some, Ok, IfSome, IfOk, OnOk, OnErr};
 ghost use Rattle.gates.specs.Literal.{Literal, positive};
 ghost use Rattle.gates.specs.Nodes.{node_at, is_conjunction, WellFormed, Grows, AddsConjunctions, Belongs};
 ghost use Rattle.gates.specs.declared.node.Node.{Node};
-ghost use Rattle.gates.specs.Valuation.{value_of, IsValuation};
+ghost use Rattle.gates.specs.Valuation.{value_of, InAll};
 ghost use Rattle.gates.specs.Sharing.{simplified, earlier, later, conjunction, Stands};
 
 use crate::lit::Lit;
@@ -30,7 +30,8 @@ impl Model for Gates {
 
     ghost view = { λ g. g.nodes.items };
 
-    ghost invariant = { λ g. WellFormed g.nodes.items × (g.pairs.entries ≡ pairs_from 0 g.nodes.items) };
+    ghost invariant = { λ g. WellFormed g.nodes.items ×
+        (g.pairs.entries ≡ pairs_from 0 g.nodes.items) };
 }
 
 /// The conjunction of two literals of one node, or of a constant and another literal.
@@ -111,19 +112,26 @@ impl Gates {
 
     /// A literal whose value is the conjunction of two.
     ///
-    /// Equal pairs, in either order, have one literal; a node is added only for a pair that has none.
+    /// Equal pairs, in either order, have one literal; a node is added only for a pair that has
+    /// none.
     pub fn and(&mut self, a: Lit, b: Lit) -> Result<Lit, AllocError>
         requires first { Belongs self.old a }
         requires second { Belongs self.old b }
-        ensures meaning { IfOk result (λ l. (values : List Bool) → IsValuation self.new values → value_of values l ≡ (value_of values a && value_of values b)) }
+        ensures meaning { IfOk result (λ l. InAll self.new (λ values.
+            value_of values l ≡ (value_of values a && value_of values b))) }
         ensures belongs { IfOk result (Belongs self.new) }
 
-        // A literal that stood for the conjunction at some time before is the answer, and nothing changes.
-        ensures known { (before : List Node) (l : Literal) → Grows before self.old → conjunction before a b ≡ Some l → result ≡ Ok l }
-        ensures same { (before : List Node) (l : Literal) → Grows before self.old → conjunction before a b ≡ Some l → self.new ≡ self.old }
+        // A literal that stood for the conjunction at some time before is the answer, and nothing
+        // changes.
+        ensures known { (before : List Node) (l : Literal) → Grows before self.old →
+            conjunction before a b ≡ Some l → result ≡ Ok l }
+        ensures same { (before : List Node) (l : Literal) → Grows before self.old →
+            conjunction before a b ≡ Some l → self.new ≡ self.old }
 
-        // Else one node is added, and it stands for the conjunction of the pair in either order from then on.
-        ensures added { conjunction self.old a b ≡ None → OnOk result (self.new ≡ self.old ++ Node.And (earlier a b) (later a b) ∷ []) }
+        // Else one node is added, and it stands for the conjunction of the pair in either order
+        // from then on.
+        ensures added { conjunction self.old a b ≡ None → OnOk result
+            (self.new ≡ self.old ++ Node.And (earlier a b) (later a b) ∷ []) }
         ensures stands { IfOk result (λ l. Stands self.new a b l) }
         ensures err { OnErr result (self.new ≡ self.old) }
         ensures grows { Grows self.old self.new }
@@ -156,7 +164,8 @@ impl Gates {
         requires first { Belongs self.old a }
         requires second { Belongs self.old b }
         requires absent { conjunction self.old a b ≡ None }
-        ensures added { OnOk result (self.new ≡ self.old ++ Node.And (earlier a b) (later a b) ∷ []) }
+        ensures added { OnOk result
+            (self.new ≡ self.old ++ Node.And (earlier a b) (later a b) ∷ []) }
         ensures literal { IfOk result (λ l. l ≡ positive (length self.old)) }
         ensures err { OnErr result (self.new ≡ self.old) }
         ensures well_formed { WellFormed self.new }

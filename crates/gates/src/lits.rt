@@ -1,4 +1,4 @@
-ghost use Rattle.std.specs.Prelude.{◌≡◌, ℕ, ◌<◌, ◌≤◌, ◌+◌, ◌^◌, ◌==◌, [], ◌∷◌, ◌++◌, length, slice_index_or, IfOk, OnOk, OnErr};
+ghost use Rattle.std.specs.Prelude.{◌≡◌, ℕ, ◌<◌, ◌≤◌, ◌+◌, ◌^◌, [], ◌∷◌, ◌++◌, length, slice_index_or, IfOk, OnOk, OnErr};
 ghost use Rattle.gates.specs.Literal.{always};
 
 use crate::lit::Lit;
@@ -37,13 +37,6 @@ impl Lits {
         Lits { items }
     }
 
-    /// The vector of the literals.
-    pub fn into_vec(self) -> Vec<Lit>
-        ensures { result.items ≡ self }
-    {
-        self.items
-    }
-
     /// The literals.
     pub fn as_slice(&self) -> &[Lit]
         ensures { result.now ≡ self.now }
@@ -57,13 +50,6 @@ impl Lits {
         ensures fits { result < 2 ^ 63 }
     {
         self.items.len()
-    }
-
-    /// Whether there is none.
-    pub fn is_empty(&self) -> bool
-        ensures { result ≡ (length self.now == 0) }
-    {
-        self.items.is_empty()
     }
 
     /// The literal of a place.

@@ -1,4 +1,4 @@
-ghost use Rattle.std.specs.Prelude.{◌≡◌, ℕ, ◌<◌, ◌==◌, length, IfOk};
+ghost use Rattle.std.specs.Prelude.{◌≡◌, ℕ, ◌<◌, length, IfOk};
 ghost use Rattle.gates.specs.Valuation.{value_at};
 
 use std::alloc::{AllocError, Global};
@@ -26,13 +26,6 @@ impl Truths {
         Truths { items }
     }
 
-    /// The vector of the truth values.
-    pub fn into_vec(self) -> Vec<bool>
-        ensures { result.items ≡ self }
-    {
-        self.items
-    }
-
     /// The truth values.
     pub fn as_slice(&self) -> &[bool]
         ensures { result.now ≡ self.now }
@@ -45,13 +38,6 @@ impl Truths {
         ensures { result ≡ length self.now }
     {
         self.items.len()
-    }
-
-    /// Whether there is none.
-    pub fn is_empty(&self) -> bool
-        ensures { result ≡ (length self.now == 0) }
-    {
-        self.items.is_empty()
     }
 
     /// The truth value of a place.

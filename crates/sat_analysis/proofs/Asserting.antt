@@ -11,7 +11,7 @@ use Rattle.sat_log.proofs.LiteralLemmas.{negated-negated, All-among}
 use Rattle.sat_trail.specs.Trail.{literals, top, before}
 use Rattle.sat_trail.specs.Units.{HasCause, IsTrail, IsQuiet}
 use Rattle.sat_analysis.specs.Analysis.{is_marked, IsMarked, IsUnmarked, marked_at, IsAsserting, IsLatestFirst}
-use Rattle.sat_analysis.proofs.Marks.{marked_other}
+use Rattle.sat_analysis.proofs.Marks.{and_false, marked_other}
 use Rattle.sat_trail.proofs.Trails.{consistent}
 use Rattle.sat_trail.proofs.Lists.{All-map}
 use Rattle.sat_trail.proofs.Levels.{literals_apart, trail_distinct, trail_back, top_most, before_has, among_earlier, among_below, same_level, unset_before}
@@ -43,21 +43,17 @@ marked_none level seen (e ∷ entries) h =
     let rest = marked_none level seen entries h.1 in
     omega arith
 
-and_no : (b : Bool) → cond {A = ℕ} (b && false) 1 0 ≡ 0
-and_no true = refl
-and_no false = refl
-
 pub marked_clear : (level : ℕ) (seen : List Bool) (entries : List Entry) → IsUnmarked seen → marked_at level seen entries ≡ 0
 marked_clear level seen [] h = refl
 marked_clear level seen (e ∷ entries) h =
-    let none : cond {A = ℕ} (eqb e.level level && is_marked seen e.literal.var) 1 0 ≡ 0 = ap (λ (b : Bool). cond {A = ℕ} (eqb e.level level && b) 1 0) (h e.literal.var) ∙ and_no (eqb e.level level) in
+    let none : cond {A = ℕ} (eqb e.level level && is_marked seen e.literal.var) 1 0 ≡ 0 = ap (λ (b : Bool). cond {A = ℕ} (eqb e.level level && b) 1 0) (h e.literal.var) ∙ and_false (eqb e.level level) in
     let rest = marked_clear level seen entries h in
     omega arith
 
 -- an entry that isn't marked, or is of another level, doesn't count
 pub count_unmarked : (level : ℕ) (seen : List Bool) (e : Entry) (rest : List Entry) → is_marked seen e.literal.var ≡ false → marked_at level seen (e ∷ rest) ≡ marked_at level seen rest
 count_unmarked level seen e rest h =
-    let none : cond {A = ℕ} (eqb e.level level && is_marked seen e.literal.var) 1 0 ≡ 0 = ap (λ (b : Bool). cond {A = ℕ} (eqb e.level level && b) 1 0) h ∙ and_no (eqb e.level level) in
+    let none : cond {A = ℕ} (eqb e.level level && is_marked seen e.literal.var) 1 0 ≡ 0 = ap (λ (b : Bool). cond {A = ℕ} (eqb e.level level && b) 1 0) h ∙ and_false (eqb e.level level) in
     omega arith
 
 pub count_elsewhere : (level : ℕ) (seen : List Bool) (e : Entry) (rest : List Entry) → e.level ≢ level → marked_at level seen (e ∷ rest) ≡ marked_at level seen rest

@@ -86,7 +86,7 @@ and_true : (b : Bool) → cond {A = ℕ} (b && true) 1 0 ≡ cond {A = ℕ} b 1 
 and_true true = refl
 and_true false = refl
 
-and_false : (b : Bool) → cond {A = ℕ} (b && false) 1 0 ≡ 0
+pub and_false : (b : Bool) → cond {A = ℕ} (b && false) 1 0 ≡ 0
 and_false true = refl
 and_false false = refl
 

@@ -87,13 +87,6 @@ module _ (log : List LogLine) (entries : List Entry) (i : ℕ) (e : Entry) (a : 
   pub visit_keep : IsMarked a.seen e.literal.var → IsAnalysis log (bottom i entries) (record { seen = set a.seen e.literal.var false; lits = a.lits ++ negated e.literal ∷ []; hints = a.hints })
   visit_keep marked = step_keep log e (bottom i entries) a state_here tail_trail.0.fresh marked
 
-  -- the clause by which an entry was implied
-  pub reason_of : (id : ℕ) → e.reason ≡ Some id → IsReason log (literals (bottom i entries)) id e.literal
-  reason_of id same = reason_at log entries i e t here id same
-
-  pub others_false_in : (id : ℕ) (r : IsReason log (literals (bottom i entries)) id e.literal) → AreFalseIn (literals entries) r.clause (literals (bottom i entries))
-  others_false_in id r = others_false_at log entries i e t here id r
-
   pub visit_resolve : (id : ℕ) (seen : List Bool) (r : IsReason log (literals (bottom i entries)) id e.literal) → IsMarked a.seen e.literal.var → length seen ≡ length a.seen → MarksOthers (literals entries) r.clause (set a.seen e.literal.var false) seen → IsAnalysis log (bottom i entries) (record { seen = seen; lits = a.lits; hints = id ∷ a.hints })
   visit_resolve id seen r marked size marks =
       step_resolve log e (bottom i entries) a (literals entries) r.clause id seen r.named (named_distinct log id r.clause is_log r.named) (trail_distinct log (bottom i entries) tail_trail.1) tail_trail.0.fresh r.implies (in_whole log entries i e t here e.literal (inl refl)) (λ k m true_. consistent (literals entries) (trail_distinct log entries t) k true_ (in_whole log entries i e t here (negated k) (inr m))) marks state_here marked size

@@ -29,7 +29,8 @@ IsUnmarked seen = (v : ℕ) → is_marked seen v ≡ false
 abbrev pub marked_at : ℕ → List Bool → List Entry → ℕ
 marked_at level seen [] = 0
 marked_at level seen (e ∷ entries) =
-    (if e.level == level && is_marked seen e.literal.var then 1 else 0) + marked_at level seen entries
+    (if e.level == level && is_marked seen e.literal.var then 1 else 0) +
+    marked_at level seen entries
 
 -- how many variables are marked
 abbrev pub marked_count : List Bool → ℕ
@@ -44,9 +45,11 @@ pub record Walk : Type 0 where
 abbrev pub AreAwaited : List ℕ → List Bool → List Entry → Type 0
 AreAwaited positions seen [] = Unit {0}
 AreAwaited positions seen (e ∷ entries) =
-    (IsMarked seen e.literal.var → Contains positions (length entries)) × AreAwaited positions seen entries
+    (IsMarked seen e.literal.var → Contains positions (length entries)) ×
+    AreAwaited positions seen entries
 
--- Each marked entry of the rest of the trail is awaited, and there are no more positions than marks.
+-- Each marked entry of the rest of the trail is awaited, and there are no more positions than
+-- marks.
 pub record Awaits (w : Walk) (rest : List Entry) : Type 0 where
   pub marked : AreAwaited w.positions w.state.seen rest
   pub few : length w.positions ≤ marked_count w.state.seen
@@ -77,15 +80,15 @@ AreFalseIn true_ c part = (l : Literal) → Among c l → ¬ Among true_ l → A
 abbrev pub Explains : List LogLine → List Literal → List ℕ → Type 0
 Explains log set hints = Refutes log set hints × EachIsUsed log set hints
 
--- Set are the marked literals of the rest of the trail, the negations of the clause so far, and nothing but such
--- negations and literals of the rest.
+-- Set are the marked literals of the rest of the trail, the negations of the clause so far, and
+-- nothing but such negations and literals of the rest.
 pub record IsBase (rest : List Entry) (a : Analyzed) (set : List Literal) : Type 0 where
   pub marked : AllByRecursion (λ e. IsMarked a.seen e.literal.var → Among set e.literal) rest
   pub kept : AllByRecursion (λ l. Among set (negated l)) a.lits
   pub only : AllByRecursion (λ l. Among (literals rest) l ⊎ Among a.lits (negated l)) set
 
--- Of the trail only this rest is still to be looked at. Once its marked literals are explained, the hints refute that
--- the literals of the clause are false.
+-- Of the trail only this rest is still to be looked at. Once its marked literals are explained, the
+-- hints refute that the literals of the clause are false.
 pub record IsAnalysis (log : List LogLine) (rest : List Entry) (a : Analyzed) : Type 0 where
   pub explains : (set : List Literal) → IsBase rest a set → Explains log set a.hints
   pub rest_drawn : AllByRecursion (λ e. IsMarked a.seen e.literal.var →
@@ -97,15 +100,17 @@ pub record IsAnalysis (log : List LogLine) (rest : List Entry) (a : Analyzed) : 
   pub lits_room : length a.lits + length rest ≤ length a.seen
   pub hints_room : length a.hints + length rest ≤ length a.seen
 
--- Where the first of these literals is false before some level, so are the others: it is of the latest level.
+-- Where the first of these literals is false before some level, so are the others: it is of the
+-- latest level.
 abbrev pub IsLatestFirst : List Entry → List Literal → Type 0
 IsLatestFirst entries [] = Unit {0}
 IsLatestFirst entries (o ∷ others) =
     (level : ℕ) → Among (literals (before level entries)) (negated o) →
     AllByRecursion (λ l. Among (literals (before level entries)) (negated l)) others
 
--- The first literal of the clause is unset before the level, and all others are false there, of which the first is of the
--- latest level; as long as there is none, some entry of the level is marked.
+-- The first literal of the clause is unset before the level, and all others are false there, of
+-- which the first is of the latest level; as long as there is none, some entry of the level is
+-- marked.
 abbrev pub IsAsserting : ℕ → List Entry → ℕ → List Literal → Type 0
 IsAsserting level entries open_ [] = 1 ≤ open_
 IsAsserting level entries open_ (u ∷ others) =
@@ -126,4 +131,5 @@ AreNegationsOf want c = AllByRecursion (λ l. Among want (negated l)) c
 abbrev pub IsJump : List Entry → List Literal → ℕ → Type 0
 IsJump entries [] level = Unit {0}
 IsJump entries (u ∷ []) level = level ≡ 0
-IsJump entries (u ∷ o ∷ others) level = AllByRecursion (λ e. e.literal.var ≡ o.var → e.level ≡ level) entries
+IsJump entries (u ∷ o ∷ others) level =
+    AllByRecursion (λ e. e.literal.var ≡ o.var → e.level ≡ level) entries

@@ -13,12 +13,13 @@ ghost use Rattle.sat_trail.specs.declared.trail.Entry.{Entry};
 ghost use Rattle.sat_analysis.specs.Analysis.{IsJump, is_marked, IsUnmarked, marked_at, marked_count, MarksOthers, AreFalseIn, AreAwaited, Awaits};
 
 use sat_log::{Ids, LineKind, Log, LogLine, SLit, SLits};
-use sat_trail::{Trail, clause_at};
+use sat_trail::Trail;
 use std::alloc::{AllocError, Global};
 use std::collections::BinaryHeap;
 use std::marker::Model;
 
-/// What conflict analysis works in: it is kept from one conflict to the next, with room for every variable.
+/// What conflict analysis works in: it is kept from one conflict to the next, with room for every
+/// variable.
 #[derive(Debug, Drop)]
 pub struct Analysis {
     /// By variables.
@@ -55,8 +56,8 @@ impl Model for Analysis {
         (length a.seen.items ≤ vec_capacity a.hints) };
 }
 
-/// Marks the variables of the clause's literals that are not true, and adds the positions of those that were not marked
-/// before. Answers how many of these have this level.
+/// Marks the variables of the clause's literals that are not true, and adds the positions of those
+/// that were not marked before. Answers how many of these have this level.
 fn mark_others(
     seen: &mut [bool],
     positions: &mut BinaryHeap<usize>,
@@ -147,7 +148,8 @@ impl Analysis {
         self.met.clear();
     }
 
-    /// The variables that had a part in what was looked at last.
+    /// The variables that had a part in what was looked at last. They are advice: no contract rests
+    /// on them.
     pub fn met(&self) -> &[u64] {
         self.met.as_slice()
     }
@@ -205,8 +207,8 @@ impl Analysis {
         self.lits.push_reserved(literal);
     }
 
-    /// Adds a hint in front of the others, and marks the variables of its literals that are not true. Answers how many
-    /// that were not marked before have this level.
+    /// Adds a hint in front of the others, and marks the variables of its literals that are not
+    /// true. Answers how many that were not marked before have this level.
     pub(crate) fn resolve(&mut self, log: &Log, trail: &Trail, id: u64, level: u64) -> usize
         requires distinct { HasDistinctVariables (literals trail.now.entries) }
         requires exist { AreUpTo trail.now.variables log.now }
@@ -226,13 +228,14 @@ impl Analysis {
         ensures hints { self.new.state.hints ≡ id ∷ self.old.state.hints }
     {
         self.hints.push_reserved(id);
-        match clause_at(log, id) {
+        match log.clause(id) {
             Some(clause) => mark_others(&mut self.seen, &mut self.positions, trail, clause, level),
             None => 0,
         }
     }
 
-    /// The level to which the search jumps back: the latest one among the literals of the clause but the first, or 0.
+    /// The level to which the search jumps back: the latest one among the literals of the clause
+    /// but the first, or 0.
     pub fn jump_level(&self, trail: &Trail) -> u64
         requires { IsUpTo trail.now.variables self.now.state.lits }
         ensures { IsJump trail.now.entries self.now.state.lits result }

@@ -15,8 +15,8 @@ use crate::analysis::Analysis;
 use sat_log::{Log, SLit};
 use sat_trail::{Entry, Trail};
 
-/// The clause by which a marked entry is resolved away, if it is not kept: one that is of level 0, or of the level of the
-/// conflict while `left` others of it are marked.
+/// The clause by which a marked entry is resolved away, if it is not kept: one that is of level 0,
+/// or of the level of the conflict while `left` others of it are marked.
 fn resolvent(entry: &Entry, level: u64, left: usize) -> Option<u64>
     requires { 1 ≤ level }
     ensures reason { IfSome result (λ id. entry.now.reason ≡ Some id) }
@@ -32,8 +32,8 @@ fn resolvent(entry: &Entry, level: u64, left: usize) -> Option<u64>
 }
 
 impl Analysis {
-    /// Looks at the entry before which `i` others were made, while `pending` entries of the level are marked. Answers how many
-    /// are then.
+    /// Looks at the entry before which `i` others were made, while `pending` entries of the level
+    /// are marked. Answers how many are then.
     fn visit(&mut self, log: &Log, trail: &Trail, i: usize, level: u64, pending: usize) -> usize
         requires log { IsLog log.now }
         requires trail { IsTrail log.now trail.now.entries }
@@ -51,7 +51,8 @@ impl Analysis {
         requires asserting { IsAsserting level trail.now.entries pending self.old.state.lits }
         ensures state { IsAnalysis log.now (bottom i trail.now.entries) self.new.state }
         ensures awaited { Awaits self.new (bottom i trail.now.entries) }
-        ensures counted { result ≡ marked_at level self.new.state.seen (bottom i trail.now.entries) }
+        ensures counted { result ≡
+            marked_at level self.new.state.seen (bottom i trail.now.entries) }
         ensures asserting { IsAsserting level trail.now.entries result self.new.state.lits }
         ensures size { length self.new.state.seen ≡ length self.old.state.seen }
     {
@@ -73,8 +74,9 @@ impl Analysis {
         }
     }
 
-    /// The clause of the first unique implication point of a conflict (Marques-Silva and Sakallah 1996), with its hints. The
-    /// literal that it asserts comes first, and then one of the latest level among the others.
+    /// The clause of the first unique implication point of a conflict (Marques-Silva and Sakallah
+    /// 1996), with its hints. The literal that it asserts comes first, and then one of the latest
+    /// level among the others.
     pub fn analyze(&mut self, log: &Log, trail: &Trail, conflict: u64)
         requires log { IsLog log.now }
         requires trail { IsTrail log.now trail.now.entries }
@@ -86,7 +88,8 @@ impl Analysis {
         requires quiet { AreQuiet (literals (before (top trail.now.entries) trail.now.entries))
             (clauses log.now) }
         ensures state { IsAnalysis log.now [] self.new.state }
-        ensures asserting { IsAsserting (top trail.now.entries) trail.now.entries 0 self.new.state.lits }
+        ensures asserting { IsAsserting (top trail.now.entries) trail.now.entries 0
+            self.new.state.lits }
         ensures size { length self.new.state.seen ≡ length self.old.state.seen }
     {
         self.clear();
@@ -99,8 +102,8 @@ impl Analysis {
         }
     }
 
-    /// Looks at the entry before which `i` others were made: a marked decision is kept, and all else that is marked is
-    /// resolved away.
+    /// Looks at the entry before which `i` others were made: a marked decision is kept, and all
+    /// else that is marked is resolved away.
     fn trace(&mut self, log: &Log, trail: &Trail, i: usize)
         requires log { IsLog log.now }
         requires trail { IsTrail log.now trail.now.entries }
@@ -150,7 +153,8 @@ impl Analysis {
         }
     }
 
-    /// The clause over negations of decisions that a conflict leads to, with its hints: at level 0 it has no literal.
+    /// The clause over negations of decisions that a conflict leads to, with its hints: at level 0
+    /// it has no literal.
     pub fn refute(&mut self, log: &Log, trail: &Trail, conflict: u64)
         requires log { IsLog log.now }
         requires trail { IsTrail log.now trail.now.entries }
@@ -168,8 +172,8 @@ impl Analysis {
         self.trace_below(log, trail, trail.len());
     }
 
-    /// The same for a literal that is true, by the clause that implied it: the literal is kept too. Before its entry `position`
-    /// others were made.
+    /// The same for a literal that is true, by the clause that implied it: the literal is kept too.
+    /// Before its entry `position` others were made.
     fn refute_from(&mut self, log: &Log, trail: &Trail, literal: SLit, reason: u64, position: usize)
         requires log { IsLog log.now }
         requires trail { IsTrail log.now trail.now.entries }

@@ -21,8 +21,9 @@ use Rattle.sat_trail.proofs.Growth.{clause_stays}
 use Rattle.sat_trail.proofs.Tables.{place_within}
 use Rattle.sat_trail.proofs.Trails.{before_all}
 use Rattle.sat_trail.proofs.Levels.{among_earlier, before_before, bottom_inside}
-use Rattle.sat_propagation.specs.Watching.{Propagated, line_of, StandsFor, KeepsPair, IsReady, IsWatchedFor, KeepsLines, Adds, Serves}
-use Rattle.sat_propagation.proofs.Ready.{none_looked, ready_line, ready_decided, ready_wider, ready_added, ready_restarted, ready_served, added_watched, served_watched, same_watched, ready_quiet}
+use Rattle.sat_propagation.specs.declared.propagation.Line.{Line}
+use Rattle.sat_propagation.specs.Watching.{Propagated, no_line, id_of, StandsFor, KeepsPair, IsReady, IsWatchedFor, KeepsLines, Adds, Serves}
+use Rattle.sat_propagation.proofs.Ready.{none_looked, ready_line, ready_decided, ready_wider, ready_added, ready_from_start, ready_served, added_watched, served_watched, same_watched, ready_quiet}
 use Rattle.sat_watch.specs.Watched.{Pair, Watched, HasPlace, HasWatch, no_pair, pair_at}
 use Rattle.sat_core.specs.Attached.{IsServed, KeepsAttached, WatchesTwo, LooksAgain, Attaches}
 
@@ -56,29 +57,29 @@ conflict_more log set more id f h = record { clause = h.clause; named = h.named;
     all [] k = tt
     all (l ∷ c) k = (f (negated l) k.0, all c k.1)
 
-if_some : (P Q : ℕ → Type 0) (refuted : Option ℕ) → ((id : ℕ) → P id → Q id) → IfSome refuted P → IfSome refuted Q
+if_some : (P Q : ℕ → Type 0) (false_clause : Option ℕ) → ((id : ℕ) → P id → Q id) → IfSome false_clause P → IfSome false_clause Q
 if_some P Q None f h = tt
 if_some P Q (Some id) f h = f id h
 
 -- a clause that is known to be false at level 0 is false
-pub refuted_now : (log : List LogLine) (trail : Trailed) (p : Propagated) (attached : ℕ) (refuted : Option ℕ) → KeepsAttached log trail p attached refuted → IfSome refuted (IsConflict log (literals trail.entries))
-refuted_now log trail p attached refuted k =
-    if_some (IsConflict log (literals (before 1 trail.entries))) (IsConflict log (literals trail.entries)) refuted (λ id h. conflict_more log (literals (before 1 trail.entries)) (literals trail.entries) id (λ l m. among_earlier 1 trail.entries l m) h) k.conflict
+pub refuted_now : (log : List LogLine) (trail : Trailed) (p : Propagated) (attached : ℕ) (false_clause : Option ℕ) → KeepsAttached log trail p attached false_clause → IfSome false_clause (IsConflict log (literals trail.entries))
+refuted_now log trail p attached false_clause k =
+    if_some (IsConflict log (literals (before 1 trail.entries))) (IsConflict log (literals trail.entries)) false_clause (λ id h. conflict_more log (literals (before 1 trail.entries)) (literals trail.entries) id (λ l m. among_earlier 1 trail.entries l m) h) k.conflict
 
 -- The trail or the watches have changed.
 
-served_more : (old new : List Entry) (p q : Propagated) (refuted : Option ℕ) (id : ℕ) (c : List Literal) → KeepsFirst old new → (IsWatchedFor p id → IsWatchedFor q id) → IsServed old p refuted id c → IsServed new q refuted id c
-served_more old new p q refuted id c first watched (inl w) = inl (watched w)
-served_more old new p q refuted id c first watched (inr (inl t)) = inr (inl (record { literal = t.literal; stands = t.stands; is_set = first t.literal t.is_set }))
-served_more old new p q refuted id c first watched (inr (inr some)) = inr (inr some)
+served_more : (old new : List Entry) (p q : Propagated) (false_clause : Option ℕ) (id : ℕ) (c : List Literal) → KeepsFirst old new → (IsWatchedFor p id → IsWatchedFor q id) → IsServed old p false_clause id c → IsServed new q false_clause id c
+served_more old new p q false_clause id c first watched (inl w) = inl (watched w)
+served_more old new p q false_clause id c first watched (inr (inl t)) = inr (inl (record { literal = t.literal; stands = t.stands; is_set = first t.literal t.is_set }))
+served_more old new p q false_clause id c first watched (inr (inr some)) = inr (inr some)
 
-pub attached_more : (log : List LogLine) (old new : Trailed) (p q : Propagated) (attached : ℕ) (refuted : Option ℕ) → KeepsFirst old.entries new.entries → ((id : ℕ) → IsWatchedFor p id → IsWatchedFor q id) → IsReady log new q → KeepsAttached log old p attached refuted → KeepsAttached log new q attached refuted
-attached_more log old new p q attached refuted first watched ready k =
+pub attached_more : (log : List LogLine) (old new : Trailed) (p q : Propagated) (attached : ℕ) (false_clause : Option ℕ) → KeepsFirst old.entries new.entries → ((id : ℕ) → IsWatchedFor p id → IsWatchedFor q id) → IsReady log new q → KeepsAttached log old p attached false_clause → KeepsAttached log new q attached false_clause
+attached_more log old new p q attached false_clause first watched ready k =
     record {
       ready = ready;
       within = k.within;
-      served = (λ id c below named. served_more old.entries new.entries p q refuted id c first (watched id) (k.served id c below named));
-      conflict = if_some (IsConflict log (literals (before 1 old.entries))) (IsConflict log (literals (before 1 new.entries))) refuted (λ id h. conflict_more log (literals (before 1 old.entries)) (literals (before 1 new.entries)) id first h) k.conflict;
+      served = (λ id c below named. served_more old.entries new.entries p q false_clause id c first (watched id) (k.served id c below named));
+      conflict = if_some (IsConflict log (literals (before 1 old.entries))) (IsConflict log (literals (before 1 new.entries))) false_clause (λ id h. conflict_more log (literals (before 1 old.entries)) (literals (before 1 new.entries)) id first h) k.conflict;
     }
 
 -- The log has grown.
@@ -92,30 +93,30 @@ pub clause_before : (log : List LogLine) (line : LogLine) (id : ℕ) → id ≤ 
 clause_before log line zero h = refl
 clause_before log line (suc i) h = ap (λ o. option_and_then (λ (l : LogLine). hinted l.kind l.lits) (cond (eqb (suc i) 0) None o)) (line_before log line (suc i - 1) (omega arith))
 
-pub attached_line : (log : List LogLine) (trail : Trailed) (p : Propagated) (attached : ℕ) (refuted : Option ℕ) (line : LogLine) → KeepsAttached log trail p attached refuted → KeepsAttached (log ++ line ∷ []) trail p attached refuted
-attached_line log trail p attached refuted line k =
+pub attached_line : (log : List LogLine) (trail : Trailed) (p : Propagated) (attached : ℕ) (false_clause : Option ℕ) (line : LogLine) → KeepsAttached log trail p attached false_clause → KeepsAttached (log ++ line ∷ []) trail p attached false_clause
+attached_line log trail p attached false_clause line k =
     record {
       ready = ready_line log trail p line k.ready;
       within = omega (arith, k.within, length_push log line);
       served = (λ id c below named. k.served id c below (sym (clause_before log line id (omega (arith, k.within))) ∙ named));
-      conflict = if_some (IsConflict log (literals (before 1 trail.entries))) (IsConflict (log ++ line ∷ []) (literals (before 1 trail.entries))) refuted (λ id h. record { clause = h.clause; named = clause_stays log line id h.clause h.named; falsified = h.falsified }) k.conflict;
+      conflict = if_some (IsConflict log (literals (before 1 trail.entries))) (IsConflict (log ++ line ∷ []) (literals (before 1 trail.entries))) false_clause (λ id h. record { clause = h.clause; named = clause_stays log line id h.clause h.named; falsified = h.falsified }) k.conflict;
     }
 
-pub attached_lines : (log : List LogLine) (trail : Trailed) (p : Propagated) (attached : ℕ) (refuted : Option ℕ) (lines : List LogLine) → KeepsAttached log trail p attached refuted → KeepsAttached (log ++ lines) trail p attached refuted
-attached_lines log trail p attached refuted [] k = subst (λ (l : List LogLine). KeepsAttached l trail p attached refuted) (sym (append-nil log)) k
-attached_lines log trail p attached refuted (line ∷ lines) k =
-    subst (λ (l : List LogLine). KeepsAttached l trail p attached refuted) (append_assoc log (line ∷ []) lines) (attached_lines (log ++ line ∷ []) trail p attached refuted lines (attached_line log trail p attached refuted line k))
+pub attached_lines : (log : List LogLine) (trail : Trailed) (p : Propagated) (attached : ℕ) (false_clause : Option ℕ) (lines : List LogLine) → KeepsAttached log trail p attached false_clause → KeepsAttached (log ++ lines) trail p attached false_clause
+attached_lines log trail p attached false_clause [] k = subst (λ (l : List LogLine). KeepsAttached l trail p attached false_clause) (sym (append-nil log)) k
+attached_lines log trail p attached false_clause (line ∷ lines) k =
+    subst (λ (l : List LogLine). KeepsAttached l trail p attached false_clause) (append_assoc log (line ∷ []) lines) (attached_lines (log ++ line ∷ []) trail p attached false_clause lines (attached_line log trail p attached false_clause line k))
 
 -- One clause more is served.
-pub attached_next : (log : List LogLine) (trail : Trailed) (p : Propagated) (attached : ℕ) (refuted : Option ℕ) → attached < length log → ((c : List Literal) → clause_at log (attached + 1) ≡ Some c → IsServed trail.entries p refuted (attached + 1) c) → KeepsAttached log trail p attached refuted → KeepsAttached log trail p (attached + 1) refuted
-attached_next log trail p attached refuted below here k =
+pub attached_next : (log : List LogLine) (trail : Trailed) (p : Propagated) (attached : ℕ) (false_clause : Option ℕ) → attached < length log → ((c : List Literal) → clause_at log (attached + 1) ≡ Some c → IsServed trail.entries p false_clause (attached + 1) c) → KeepsAttached log trail p attached false_clause → KeepsAttached log trail p (attached + 1) false_clause
+attached_next log trail p attached false_clause below here k =
     record { ready = k.ready; within = omega arith; served = (λ id c up named. by_id id c up named (cases_lt attached id)); conflict = k.conflict }
   where
-    by_id : (id : ℕ) (c : List Literal) → id ≤ attached + 1 → clause_at log id ≡ Some c → (attached < id) ⊎ (id ≤ attached) → IsServed trail.entries p refuted id c
+    by_id : (id : ℕ) (c : List Literal) → id ≤ attached + 1 → clause_at log id ≡ Some c → (attached < id) ⊎ (id ≤ attached) → IsServed trail.entries p false_clause id c
     by_id id c up named (inr earlier) = k.served id c earlier named
     by_id id c up named (inl later) =
         let last : id ≡ attached + 1 = omega arith in
-        subst (λ (i : ℕ). IsServed trail.entries p refuted i c) (sym last) (here c (subst (λ (i : ℕ). clause_at log i ≡ Some c) last named))
+        subst (λ (i : ℕ). IsServed trail.entries p false_clause i c) (sym last) (here c (subst (λ (i : ℕ). clause_at log i ≡ Some c) last named))
 
 -- What holds of each clause that an id names holds of each of the clauses.
 
@@ -153,15 +154,15 @@ at_first : (entries : List Entry) → top entries ≡ 0 → before 1 entries ≡
 at_first entries none = before_all 0 entries (omega arith)
 
 -- literals became true at level 0, and what was watched still is
-pub attached_implied : (log : List LogLine) (old new : Trailed) (p q : Propagated) (attached : ℕ) (refuted : Option ℕ) → AddsImplied old.entries new.entries → ((id : ℕ) → IsWatchedFor p id → IsWatchedFor q id) → IsReady log new q → KeepsAttached log old p attached refuted → KeepsAttached log new q attached refuted
-attached_implied log old new p q attached refuted a watched ready k =
-    attached_more log old new p q attached refuted (λ x m. subst (λ (es : List Entry). Among (literals (before 1 es)) x) (sym a.same) (first_added a.added old.entries x m)) watched ready k
+pub attached_implied : (log : List LogLine) (old new : Trailed) (p q : Propagated) (attached : ℕ) (false_clause : Option ℕ) → AddsImplied old.entries new.entries → ((id : ℕ) → IsWatchedFor p id → IsWatchedFor q id) → IsReady log new q → KeepsAttached log old p attached false_clause → KeepsAttached log new q attached false_clause
+attached_implied log old new p q attached false_clause a watched ready k =
+    attached_more log old new p q attached false_clause (λ x m. subst (λ (es : List Entry). Among (literals (before 1 es)) x) (sym a.same) (first_added a.added old.entries x m)) watched ready k
 
-pub attach_keeps : (log : List LogLine) (old new : Trailed) (p q : Propagated) (attached : ℕ) (refuted : Option ℕ) → attached < length log → top new.entries ≡ 0 → AddsImplied old.entries new.entries → ((id : ℕ) → IsWatchedFor p id → IsWatchedFor q id) → IsReady log new q → Attaches log new.entries q (attached + 1) true → KeepsAttached log old p attached refuted → KeepsAttached log new q (attached + 1) refuted
-attach_keeps log old new p q attached refuted below none a watched ready here k =
-    attached_next log new q attached refuted below (λ c named. by_case c (here c named)) (attached_implied log old new p q attached refuted a watched ready k)
+pub attach_keeps : (log : List LogLine) (old new : Trailed) (p q : Propagated) (attached : ℕ) (false_clause : Option ℕ) → attached < length log → top new.entries ≡ 0 → AddsImplied old.entries new.entries → ((id : ℕ) → IsWatchedFor p id → IsWatchedFor q id) → IsReady log new q → Attaches log new.entries q (attached + 1) true → KeepsAttached log old p attached false_clause → KeepsAttached log new q (attached + 1) false_clause
+attach_keeps log old new p q attached false_clause below none a watched ready here k =
+    attached_next log new q attached false_clause below (λ c named. by_case c (here c named)) (attached_implied log old new p q attached false_clause a watched ready k)
   where
-    by_case : (c : List Literal) → IsWatchedFor q (attached + 1) ⊎ IsTrueUnder (literals new.entries) c → IsServed new.entries q refuted (attached + 1) c
+    by_case : (c : List Literal) → IsWatchedFor q (attached + 1) ⊎ IsTrueUnder (literals new.entries) c → IsServed new.entries q false_clause (attached + 1) c
     by_case c (inl w) = inl w
     by_case c (inr t) = inr (inl (record { literal = t.literal; stands = t.stands; is_set = subst (λ (es : List Entry). Among (literals es) t.literal) (sym (at_first new.entries none)) t.is_set }))
 
@@ -186,55 +187,51 @@ none_watched old new [] h = (omega arith, h)
 none_watched old new (a ∷ []) h = (omega arith, h)
 none_watched old new (a ∷ b ∷ rest) h = absurd h
 
-pub watches_first : (old new : Propagated) (lits : List Literal) (d : Literal) (w : ℕ) → 2 ≤ length lits → Adds old new (get_or lits 0 d) (get_or lits 1 d) w → WatchesTwo old new lits (Some w)
-watches_first old new [] d w h a = absurd (omega arith)
-watches_first old new (x ∷ []) d w h a = absurd (omega arith)
-watches_first old new (x ∷ y ∷ rest) d w h a = a
-
-pub watches_none : (p : Propagated) (lits : List Literal) → length lits < 2 → WatchesTwo p p lits None
-watches_none p [] h = refl
-watches_none p (a ∷ []) h = refl
-watches_none p (a ∷ b ∷ rest) h = absurd (omega arith)
-
 -- the pair that was added
 pub pair_added : (old new : Propagated) (a b : Literal) (w : ℕ) → Adds old new a b w → pair_at new.watched w ≡ record { first = a; second = b }
 pair_added old new a b w adds =
     ap (λ (ps : List Pair). get_or ps w no_pair) adds.pairs ∙ get_or_push old.watched.pairs (record { first = a; second = b }) no_pair w (sym adds.number)
 
+-- the first two literals of a clause stand for it
+pub first_two : (log : List LogLine) (id : ℕ) (binary : Bool) (a b : Literal) (rest : List Literal) → clause_at log id ≡ Some (a ∷ b ∷ rest) → HasDistinctVariables (a ∷ b ∷ rest) → (binary ≡ true → length (a ∷ b ∷ rest) ≡ 2) → StandsFor log (record { id = id; binary = binary }) (record { first = a; second = b })
+first_two log id binary a b rest named distinct short =
+    record {
+      clause = a ∷ b ∷ rest;
+      named = named;
+      stands = (λ l m. ⊎_elim (λ x. inl x) (λ x. inr (inl x)) m);
+      apart = (λ same. distinct.0.0 (sym (ap (λ (l : Literal). l.var) same)));
+      whole = (λ all l m. whole rest (short all) l m);
+    }
+  where
+    whole : (others : List Literal) → length (a ∷ b ∷ others) ≡ 2 → (l : Literal) → Among (a ∷ b ∷ others) l → HasWatch (record { first = a; second = b }) l
+    whole others h l (inl x) = inl x
+    whole others h l (inr (inl x)) = inr x
+    whole [] h l (inr (inr m)) = absurd m
+    whole (k ∷ others) h l (inr (inr m)) = absurd (omega (arith, h))
+
 -- A decision, propagation, a backjump, a variable more.
 
-pub attached_decided : (log : List LogLine) (old new : Trailed) (p : Propagated) (attached : ℕ) (refuted : Option ℕ) (l : Literal) → new.variables ≡ old.variables → new.entries ≡ record { literal = l; level = top old.entries + 1; reason = None } ∷ old.entries → length old.entries ≤ p.looked → KeepsAttached log old p attached refuted → KeepsAttached log new p attached refuted
-attached_decided log old new p attached refuted l variables same all k =
+pub attached_decided : (log : List LogLine) (old new : Trailed) (p : Propagated) (attached : ℕ) (false_clause : Option ℕ) (l : Literal) → new.variables ≡ old.variables → new.entries ≡ record { literal = l; level = top old.entries + 1; reason = None } ∷ old.entries → length old.entries ≤ p.looked → KeepsAttached log old p attached false_clause → KeepsAttached log new p attached false_clause
+attached_decided log old new p attached false_clause l variables same all k =
     let e : Entry = record { literal = l; level = top old.entries + 1; reason = None } in
-    attached_more log old new p p attached refuted (λ x m. subst (λ (es : List Entry). Among (literals (before 1 es)) x) (sym same) (first_more e old.entries x m)) (λ id h. h) (ready_decided log old new p e variables same refl all k.ready) k
+    attached_more log old new p p attached false_clause (λ x m. subst (λ (es : List Entry). Among (literals (before 1 es)) x) (sym same) (first_more e old.entries x m)) (λ id h. h) (ready_decided log old new p e variables same refl all k.ready) k
 
-pub attached_propagated : (log : List LogLine) (old new : Trailed) (p q : Propagated) (attached : ℕ) (refuted : Option ℕ) → AddsImplied old.entries new.entries → KeepsLines p q → IsReady log new q → KeepsAttached log old p attached refuted → KeepsAttached log new q attached refuted
-attached_propagated log old new p q attached refuted a lines ready k =
-    attached_implied log old new p q attached refuted a (λ id h. same_watched p q lines.pairs lines.ids id h) ready k
+pub attached_propagated : (log : List LogLine) (old new : Trailed) (p q : Propagated) (attached : ℕ) (false_clause : Option ℕ) → AddsImplied old.entries new.entries → KeepsLines p q → IsReady log new q → KeepsAttached log old p attached false_clause → KeepsAttached log new q attached false_clause
+attached_propagated log old new p q attached false_clause a lines ready k =
+    attached_implied log old new p q attached false_clause a (λ id h. same_watched p q lines.pairs lines.lines id h) ready k
 
-pub attached_before : (log : List LogLine) (old new : Trailed) (p q : Propagated) (attached jump : ℕ) (refuted : Option ℕ) → new.entries ≡ before (jump + 1) old.entries → q.watched ≡ p.watched → q.ids ≡ p.ids → IsReady log new q → KeepsAttached log old p attached refuted → KeepsAttached log new q attached refuted
-attached_before log old new p q attached jump refuted same watched ids ready k =
-    attached_more log old new p q attached refuted (λ x m. subst (λ (es : List Entry). Among (literals (before 1 es)) x) (sym same) (first_before jump old.entries x m)) (same_watched p q (ap (λ (w : Watched). length w.pairs) watched) ids) ready k
+pub attached_before : (log : List LogLine) (old new : Trailed) (p q : Propagated) (attached jump : ℕ) (false_clause : Option ℕ) → new.entries ≡ before (jump + 1) old.entries → q.watched ≡ p.watched → q.lines ≡ p.lines → IsReady log new q → KeepsAttached log old p attached false_clause → KeepsAttached log new q attached false_clause
+attached_before log old new p q attached jump false_clause same watched lines ready k =
+    attached_more log old new p q attached false_clause (λ x m. subst (λ (es : List Entry). Among (literals (before 1 es)) x) (sym same) (first_before jump old.entries x m)) (same_watched p q (ap (λ (w : Watched). length w.pairs) watched) lines) ready k
 
-pub attached_wider : (log : List LogLine) (old new : Trailed) (p q : Propagated) (attached : ℕ) (refuted : Option ℕ) → new.entries ≡ old.entries → places new.variables ≤ length q.watched.lists → q.watched.pairs ≡ p.watched.pairs → q.ids ≡ p.ids → q.looked ≡ p.looked → KeepsAttached log old p attached refuted → KeepsAttached log new q attached refuted
-attached_wider log old new p q attached refuted same lists pairs ids looked k =
-    attached_more log old new p q attached refuted (λ x m. subst (λ (es : List Entry). Among (literals (before 1 es)) x) (sym same) m) (same_watched p q (ap length pairs) ids) (ready_wider log old new p q same lists pairs ids looked k.ready) k
+pub attached_wider : (log : List LogLine) (old new : Trailed) (p q : Propagated) (attached : ℕ) (false_clause : Option ℕ) → new.entries ≡ old.entries → places new.variables ≤ length q.watched.lists → q.watched.pairs ≡ p.watched.pairs → q.lines ≡ p.lines → q.looked ≡ p.looked → KeepsAttached log old p attached false_clause → KeepsAttached log new q attached false_clause
+attached_wider log old new p q attached false_clause same lists pairs lines looked k =
+    attached_more log old new p q attached false_clause (λ x m. subst (λ (es : List Entry). Among (literals (before 1 es)) x) (sym same) m) (same_watched p q (ap length pairs) lines) (ready_wider log old new p q same lists pairs lines looked k.ready) k
 
 -- there is a list for each of the literals
 pub all_places : (n : ℕ) (w : Watched) (c : List Literal) → IsUpTo n c → places n ≤ length w.lists → AllByRecursion (HasPlace w) c
 all_places n w [] up more = tt
 all_places n w (l ∷ c) up more = (omega (arith, place_within n l up.0, more), all_places n w c up.1 more)
-
--- the pair that was added is one of those that there are then
-pub watcher_inside : (old new after : Propagated) (lits : List Literal) (watcher : Option ℕ) → WatchesTwo old new lits watcher → after.watched ≡ new.watched → IfSome watcher (λ w. w < length after.watched.pairs)
-watcher_inside old new after lits None h same = tt
-watcher_inside old new after lits (Some w) h same =
-    let two = two_watched old new lits w h in
-    let a = two.0 in
-    let b = two.1 in
-    let adds : Adds old new a b w = two.4 in
-    let size : length after.watched.pairs ≡ length old.watched.pairs + 1 = ap (λ (x : Watched). length x.pairs) same ∙ ap length adds.pairs ∙ length_push old.watched.pairs (record { first = a; second = b }) in
-    omega (arith, size, adds.number)
 
 -- what is not there is absent
 pub none_of : (o : Option ℕ) → is_some o ≡ false → o ≡ None
@@ -270,21 +267,21 @@ fresh_pair entries p q a b none within (inr same) l k hl hk ne =
 
 -- no more of the trail was looked at than before
 looked_again : (log : List LogLine) (t : Trailed) (p q : Propagated) (a b : Literal) → LooksAgain (literals t.entries) p q a b → IsReady log t p → IsReady log t q
-looked_again log t p q a b (inl again) r = subst (IsReady log t) (sym again) (ready_restarted log t p r)
+looked_again log t p q a b (inl again) r = subst (IsReady log t) (sym again) (ready_from_start log t p r)
 looked_again log t p q a b (inr same) r = subst (IsReady log t) (sym same.0) r
 
 again_watched : (set : List Literal) (p q : Propagated) (a b : Literal) → LooksAgain set p q a b → q.watched ≡ p.watched
 again_watched set p q a b (inl again) = ap (λ (r : Propagated). r.watched) again
 again_watched set p q a b (inr same) = ap (λ (r : Propagated). r.watched) same.0
 
-again_ids : (set : List Literal) (p q : Propagated) (a b : Literal) → LooksAgain set p q a b → q.ids ≡ p.ids
-again_ids set p q a b (inl again) = ap (λ (r : Propagated). r.ids) again
-again_ids set p q a b (inr same) = ap (λ (r : Propagated). r.ids) same.0
+again_lines : (set : List Literal) (p q : Propagated) (a b : Literal) → LooksAgain set p q a b → q.lines ≡ p.lines
+again_lines set p q a b (inl again) = ap (λ (r : Propagated). r.lines) again
+again_lines set p q a b (inr same) = ap (λ (r : Propagated). r.lines) same.0
 
-module _ (log : List LogLine) (t : Trailed) (p0 p1 p2 p3 : Propagated) (lits : List Literal) (w id : ℕ) (watches : WatchesTwo p0 p1 lits (Some w)) (first second : Literal) (stand : (first ≡ get_or lits 0 first) × (second ≡ get_or lits 1 second)) (again : LooksAgain (literals t.entries) p1 p2 first second) (serves : Serves p2 p3 w id) where
-  pub two_ready : top t.entries ≡ 0 → clause_at log id ≡ Some lits → HasDistinctVariables lits → IsReady log t p0 → IsReady log t p3
-  two_ready none named distinct ready =
-      ready_served p2 p3 w id serves log t (subst (StandsFor log id) (sym pair_is) stands) keeps (looked_again log t p1 p2 first second again before)
+module _ (log : List LogLine) (t : Trailed) (p0 p1 p2 p3 : Propagated) (lits : List Literal) (w id : ℕ) (binary : Bool) (watches : WatchesTwo p0 p1 lits (Some w)) (first second : Literal) (stand : (first ≡ get_or lits 0 first) × (second ≡ get_or lits 1 second)) (again : LooksAgain (literals t.entries) p1 p2 first second) (serves : Serves p2 p3 w (record { id = id; binary = binary })) where
+  pub two_ready : top t.entries ≡ 0 → clause_at log id ≡ Some lits → HasDistinctVariables lits → (binary ≡ true → length lits ≡ 2) → IsReady log t p0 → IsReady log t p3
+  two_ready none named distinct short ready =
+      ready_served p2 p3 w (record { id = id; binary = binary }) serves log t (subst (StandsFor log (record { id = id; binary = binary })) (sym pair_is) stands) keeps (looked_again log t p1 p2 first second again before)
     where
       two : (a : Literal) × (b : Literal) × (rest : List Literal) × (lits ≡ a ∷ b ∷ rest) × Adds p0 p1 a b w
       two = two_watched p0 p1 lits w watches
@@ -314,17 +311,8 @@ module _ (log : List LogLine) (t : Trailed) (p0 p1 p2 p3 : Propagated) (lits : L
       pair_is : pair_at p2.watched w ≡ record { first = a; second = b }
       pair_is = ap (λ (x : Watched). pair_at x w) (again_watched (literals t.entries) p1 p2 first second again) ∙ pair_added p0 p1 a b w adds
 
-      both : HasDistinctVariables (a ∷ b ∷ two.2)
-      both = subst HasDistinctVariables two.3 distinct
-
-      stands : StandsFor log id (record { first = a; second = b })
-      stands =
-          record {
-            clause = a ∷ b ∷ two.2;
-            named = named ∙ ap Some two.3;
-            stands = (λ l m. ⊎_elim (λ x. inl x) (λ x. inr (inl x)) m);
-            apart = (λ same. both.0.0 (sym (ap (λ (l : Literal). l.var) same)));
-          }
+      stands : StandsFor log (record { id = id; binary = binary }) (record { first = a; second = b })
+      stands = first_two log id binary a b two.2 (named ∙ ap Some two.3) (subst HasDistinctVariables two.3 distinct) (λ all. sym (ap length two.3) ∙ short all)
 
       keeps : KeepsPair (bottom p2.looked t.entries) t.entries (pair_at p2.watched w)
       keeps = subst (KeepsPair (bottom p2.looked t.entries) t.entries) (sym pair_is) (fresh_pair t.entries p1 p2 a b none before.within again_for)
@@ -334,6 +322,6 @@ module _ (log : List LogLine) (t : Trailed) (p0 p1 p2 p3 : Propagated) (lits : L
       let two = two_watched p0 p1 lits w watches in
       let adds : Adds p0 p1 two.0 two.1 w = two.4 in
       let watched = again_watched (literals t.entries) p1 p2 first second again in
-      let ids = again_ids (literals t.entries) p1 p2 first second again in
-      let free : line_of p2 w ≡ 0 = ap (λ (xs : List ℕ). get_or xs w 0) ids ∙ adds.unused in
-      served_watched p2 p3 w id serves i free (same_watched p1 p2 (ap (λ (x : Watched). length x.pairs) watched) ids i (added_watched p0 p1 two.0 two.1 w adds i h))
+      let lines = again_lines (literals t.entries) p1 p2 first second again in
+      let free : id_of p2 w ≡ 0 = ap (λ (xs : List Line). (get_or xs w no_line).id) lines ∙ adds.unused in
+      served_watched p2 p3 w (record { id = id; binary = binary }) serves i free (same_watched p1 p2 (ap (λ (x : Watched). length x.pairs) watched) lines i (added_watched p0 p1 two.0 two.1 w adds i h))

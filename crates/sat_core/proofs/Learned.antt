@@ -84,8 +84,8 @@ module _ (log_then log : List LogLine) (old back : Trailed) (a0 a : Analyzed) (j
     pub learned_asked : (want : List Literal) → AskedFirst want old.entries → AskedFirst want new.entries
     learned_asked want asked = adds_asked want back.entries new.entries implied (subst (AskedFirst want) (sym back_is) (asked_before want (jump + 1) old.entries asked))
 
-    pub learned_clauses : (p p1 q r : Propagated) (attached : ℕ) (refuted : Option ℕ) (watcher : Option ℕ) → KeepsAttached log_then old p attached refuted → attached ≡ length log_then → WatchesTwo p p1 line.lits watcher → q.watched ≡ p1.watched → q.ids ≡ p1.ids → (IsReady log old p1 → IsReady log back q) → ServesIf q r watcher id → KeepsAttached log new r id refuted
-    learned_clauses p p1 q r attached refuted watcher ka whole watches watched ids ready serves =
-        learned_attached log log_then old back new p p1 q r attached jump id refuted line l watcher ka whole k.trail_is
+    pub learned_clauses : (p p1 q r : Propagated) (attached : ℕ) (false_clause : Option ℕ) (watcher : Option ℕ) → KeepsAttached log_then old p attached false_clause → attached ≡ length log_then → WatchesTwo p p1 line.lits watcher → q.watched ≡ p1.watched → q.lines ≡ p1.lines → (IsReady log old p1 → IsReady log back q) → (binary : Bool) → (binary ≡ true → length line.lits ≡ 2) → ServesIf q r watcher (record { id = id; binary = binary }) → KeepsAttached log new r id false_clause
+    learned_clauses p p1 q r attached false_clause watcher ka whole watches watched lines ready binary short serves =
+        learned_attached log log_then old back new p p1 q r attached jump id false_clause line l watcher ka whole k.trail_is
         (line_asserting old a line line_is asserting) (line_jump old a line line_is jump j) (line_distinct old a line line_is log_then state) (ap (λ (x : LogLine). x.kind) line_is) first
-        watches log_is id_is back_is watched ids ready more entries trail_is serves
+        watches log_is id_is back_is watched lines ready more entries trail_is binary short serves

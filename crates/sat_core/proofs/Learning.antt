@@ -16,7 +16,7 @@ use Rattle.sat_log.specs.declared.line.LogLine.{LogLine}
 use Rattle.sat_log.proofs.ListLemmas.{All-append}
 use Rattle.sat_log.proofs.LiteralLemmas.{All-among}
 use Rattle.sat_trail.specs.Trail.{Trailed, literals, top, before}
-use Rattle.sat_trail.specs.Units.{HasCause, AreDecided, IsTrail, IsQuiet, AreQuiet, MissesNoUnit}
+use Rattle.sat_trail.specs.Units.{AreDecided, IsTrail, IsQuiet, AreQuiet, MissesNoUnit}
 use Rattle.sat_analysis.specs.Analysis.{Analyzed, IsAnalysis, IsAsserting, IsAsserted, AreNegationsOf, IsJump}
 use Rattle.sat_core.specs.Search.{KeepsSearch, AreAmong, AskedFirst, AddsLearned, AddsFinal}
 use Rattle.sat_trail.proofs.Logs.{named_up_to, clauses_push}
@@ -26,6 +26,7 @@ use Rattle.sat_analysis.proofs.Walks.{finish, finish_clear}
 use Rattle.sat_trail.proofs.Levels.{among_earlier, trail_distinct, top_most, All-before, before_lower, unset_before, before_trail, before_before, top_lower, unset_earlier}
 use Rattle.sat_trail.proofs.Growth.{trail_stays}
 use Rattle.sat_trail.specs.declared.trail.Entry.{Entry}
+use Rattle.sat_core.proofs.Steps.{decided_zero, top_zero}
 
 -- The literals of a line exist, since they stand in clauses of the log.
 
@@ -170,22 +171,11 @@ adds_learned log entries a t quiet above state asserting =
 
 -- Final lines.
 
-no_decision : (log : List LogLine) (entries : List Entry) (l : Literal) (level : ℕ) (reason : Option ℕ) → HasCause log entries l level reason → level ≡ 0 → ¬ (reason ≡ None)
-no_decision log entries l level None c none same = absurd (omega (arith, c))
-no_decision log entries l level (Some id) c none same = absurd cc
-
 -- at level 0 nothing was decided
 pub decided_none : (log : List LogLine) (want : List Literal) (entries : List Entry) → IsTrail log entries → top entries ≡ 0 → AreDecided want entries
 decided_none log want [] t none = tt
 decided_none log want (e ∷ entries) t none =
-    let below = (top_most log (e ∷ entries) t).1 in
-    ((λ same. absurd (no_decision log entries e.literal e.level e.reason t.0.cause none same)), decided_none log want entries t.1 (top_zero entries below))
-  where
-    top_zero : (es : List Entry) → AllByRecursion (λ f. f.level ≤ e.level) es → top es ≡ 0
-    top_zero [] h = refl
-    top_zero (f ∷ es) h =
-        let first = h.0 in
-        omega arith
+    ((λ same. absurd (decided_zero log entries e.literal e.level e.reason t.0.cause none same)), decided_none log want entries t.1 (top_zero e entries none (top_most log (e ∷ entries) t).1))
 
 -- as long as something wanted is not true, all decisions are wanted
 pub decided_wanted : (want : List Literal) (entries : List Entry) (l : Literal) → AskedFirst want entries → Among want l → ¬ Among (literals entries) l → AreDecided want entries

@@ -3,10 +3,10 @@ use Rattle.std.proofs.Common.{◌≡◌, List, [], ◌∷◌, ◌++◌, length, 
 use Rattle.std.specs.Prelude.{Result, Ok, Err, OnOk, OnErr}
 use Rattle.std.proofs.lemmas.List.{append-nil, drop_at}
 use Rattle.sat_log.specs.Literal.{Literal}
-use Rattle.sat_log.specs.Kept.{original}
+use Rattle.sat_log.specs.Lines.{original}
 use Rattle.sat_log.specs.Learned.{AllFresh}
 use Rattle.sat_log.specs.declared.line.LogLine.{LogLine}
-use Rattle.sat_core.specs.Gained.{gained, IsLonger, IsLearned, AreLearned}
+use Rattle.sat_core.specs.Gained.{gained, IsLonger, IsNeededAndDrawn, AreLearned}
 use Rattle.sat_core.specs.Search.{Searched, IsAtRest}
 
 -- lines that were learned over some, and more lines that were over both
@@ -15,7 +15,7 @@ learned_append before [] more h k = subst (λ b. AreLearned b more) (append-nil 
 learned_append before (x ∷ lines) more h k =
     (h.0, learned_append (before ++ x ∷ []) lines more h.1 (subst (λ b. AreLearned b more) (sym (append_assoc before (x ∷ []) lines)) k))
 
-original_learned : (before : List LogLine) (c : List Literal) → IsLearned before (original c)
+original_learned : (before : List LogLine) (c : List Literal) → IsNeededAndDrawn before (original c)
 original_learned before c = record { needed = (λ e. absurd cc); drawn = (λ e. absurd cc) }
 
 -- of originals nothing is asked

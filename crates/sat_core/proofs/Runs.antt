@@ -8,13 +8,13 @@ use Rattle.sat_log.specs.Literal.{Literal}
 use Rattle.std.proofs.lemmas.Bool.{ne_eqb, cases_lt}
 use Rattle.sat_log.specs.Clauses.{Satisfies}
 use Rattle.sat_log.specs.Accepted.{given, originals, line_at, IsLog}
-use Rattle.sat_log.specs.Learned.{learned, AllFresh, conflicts as conflict_clauses}
+use Rattle.sat_log.specs.Learned.{learned, AllFresh, conflict_clauses}
 use Rattle.sat_log.specs.declared.line.LineKind.{LineKind}
 use Rattle.sat_log.specs.declared.line.LineKind.TheVariants.{Original, Conflict, Final}
 use Rattle.sat_log.specs.declared.line.LogLine.{LogLine}
 use Rattle.sat_log.proofs.ListLemmas.{All-append}
-use Rattle.sat_core.specs.Gained.{gained, conflicts, IsLonger, HasNoOriginal, HasNoFinal, IsLearned, AreLearned, IsRefusal}
-use Rattle.sat_core.specs.Gains.{Outcome, refuted, stopped, outcome, EndsAs, Gains}
+use Rattle.sat_core.specs.Gained.{gained, conflicts, IsLonger, HasNoOriginal, HasNoFinal, IsNeededAndDrawn, AreLearned, IsRefusal}
+use Rattle.sat_core.specs.Gains.{Outcome, Refuted, OutOfMemory, outcome, EndsAs, Gains}
 use Rattle.sat_core.specs.Assignment.{HasNoSolution}
 use Rattle.sat_core.specs.Verdicts.{IsBelow, IsWithin, IfNo}
 use Rattle.sat_core.specs.declared.verdict.Verdict.{Verdict}
@@ -35,7 +35,7 @@ pub record HasLearned (start log : List LogLine) : Type 0 where
   pub learned_is : AreLearned start (gained start log)
   pub conflict : AreConflicts (gained start log)
 
-gained_none : (start : List LogLine) → gained start start ≡ []
+pub gained_none : (start : List LogLine) → gained start start ≡ []
 gained_none start = ap (drop (length start)) (sym (append-nil start)) ∙ drop_at start [] (length start) refl
 
 pub learned_none : (start : List LogLine) → HasLearned start start
@@ -57,14 +57,14 @@ pub longer_push : (start log new : List LogLine) (line : LogLine) → IsLonger s
 longer_push start log new line longer same =
     same ∙ ap (λ (l : List LogLine). l ++ line ∷ []) longer ∙ append_assoc start (gained start log) (line ∷ []) ∙ ap (λ (g : List LogLine). start ++ g) (sym (gained_push start log new line longer same))
 
-learned_push : (before lines : List LogLine) (line : LogLine) → AreLearned before lines → IsLearned (before ++ lines) line → AreLearned before (lines ++ line ∷ [])
-learned_push before [] line h l = (subst (λ (b : List LogLine). IsLearned b line) (append-nil before) l, tt)
+learned_push : (before lines : List LogLine) (line : LogLine) → AreLearned before lines → IsNeededAndDrawn (before ++ lines) line → AreLearned before (lines ++ line ∷ [])
+learned_push before [] line h l = (subst (λ (b : List LogLine). IsNeededAndDrawn b line) (append-nil before) l, tt)
 learned_push before (x ∷ lines) line h l =
-    (h.0, learned_push (before ++ x ∷ []) lines line h.1 (subst (λ (b : List LogLine). IsLearned b line) (sym (append_assoc before (x ∷ []) lines)) l))
+    (h.0, learned_push (before ++ x ∷ []) lines line h.1 (subst (λ (b : List LogLine). IsNeededAndDrawn b line) (sym (append_assoc before (x ∷ []) lines)) l))
 
-pub are_learned_push : (start log new : List LogLine) (line : LogLine) → IsLonger start log → AreLearned start (gained start log) → new ≡ log ++ line ∷ [] → IsLearned log line → AreLearned start (gained start new)
+pub are_learned_push : (start log new : List LogLine) (line : LogLine) → IsLonger start log → AreLearned start (gained start log) → new ≡ log ++ line ∷ [] → IsNeededAndDrawn log line → AreLearned start (gained start new)
 are_learned_push start log new line longer h same l =
-    subst (AreLearned start) (sym (gained_push start log new line longer same)) (learned_push start (gained start log) line h (subst (λ (b : List LogLine). IsLearned b line) longer l))
+    subst (AreLearned start) (sym (gained_push start log new line longer same)) (learned_push start (gained start log) line h (subst (λ (b : List LogLine). IsNeededAndDrawn b line) longer l))
 
 -- a learned clause more
 pub learned_more : (start log new : List LogLine) → HasLearned start log → AddsLearned log new → HasLearned start new
@@ -249,7 +249,7 @@ module _ (n : ℕ) (budget : Budget) (want : List Literal) (start : List LogLine
       none_final (gained start new) (subst (HasLearned start) (sym same) h).conflict
 
   -- a final line more
-  pub gains_final : (log new : List LogLine) (id : ℕ) → HasLearned start log → id ≡ length new → AddsFinal want log new → IsLog new → AllFresh start (gained start new) → conflicts (gained start new) < 3 ^ n → IsBelow budget (conflicts (gained start log)) → Gains n budget want start new (refuted id)
+  pub gains_final : (log new : List LogLine) (id : ℕ) → HasLearned start log → id ≡ length new → AddsFinal want log new → IsLog new → AllFresh start (gained start new) → conflicts (gained start new) < 3 ^ n → IsBelow budget (conflicts (gained start log)) → Gains n budget want start new (Refuted id)
   gains_final log new id h last a is_log fresh few below =
       record {
         longer = longer_push start log new a.line h.longer a.same;
@@ -261,7 +261,7 @@ module _ (n : ℕ) (budget : Budget) (want : List Literal) (start : List LogLine
       }
 
 -- where a call has no answer, memory was refused
-pub outcome_err : {E : Type 0} (P : Outcome → Type 0) (r : Result Verdict E) → IsErr r → P stopped → P (outcome r)
+pub outcome_err : {E : Type 0} (P : Outcome → Type 0) (r : Result Verdict E) → IsErr r → P OutOfMemory → P (outcome r)
 outcome_err P (Ok v) e h = absurd cc
 outcome_err P (Err x) e h = h
 

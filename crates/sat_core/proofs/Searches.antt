@@ -8,7 +8,7 @@ use Rattle.sat_log.specs.Literal.{Literal}
 use Rattle.sat_log.specs.Clause.{IsUnset}
 use Rattle.sat_log.specs.Clauses.{clauses}
 use Rattle.sat_log.specs.Checking.{IsUpTo, AreUpTo}
-use Rattle.sat_log.specs.Kept.{original}
+use Rattle.sat_log.specs.Lines.{original}
 use Rattle.sat_log.specs.declared.line.LogLine.{LogLine}
 use Rattle.sat_log.proofs.ListLemmas.{All-append}
 use Rattle.sat_trail.specs.Trail.{Trailed, literals, top, before}

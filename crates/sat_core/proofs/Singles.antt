@@ -8,11 +8,6 @@ use Rattle.sat_log.specs.Learned.{IsTrueUnder}
 use Rattle.sat_log.specs.declared.line.LogLine.{LogLine}
 use Rattle.sat_trail.specs.Units.{IsReason}
 
--- one that has none is false
-pub none_falsified : (set c : List Literal) → length c ≡ 0 → IsFalsified set c
-none_falsified set [] h = tt
-none_falsified set (a ∷ c) h = absurd (omega (arith, h))
-
 module _ (set c : List Literal) (l : Literal) (short : length c < 2) (first : l ≡ get_or c 0 l) where
   pub one_stands : length c ≢ 0 → Among c l
   one_stands some = by_list c some first

@@ -96,21 +96,22 @@ keeps_reset log old new analysis k same variables =
       size = subst (λ (n : ℕ). n < length analysis.seen) (sym variables) k.size;
     }
 
-decided_zero : (log : List LogLine) (entries : List Entry) (l : Literal) (level : ℕ) (reason : Option ℕ) → HasCause log entries l level reason → level ≡ 0 → reason ≡ None → ⊥
+pub decided_zero : (log : List LogLine) (entries : List Entry) (l : Literal) (level : ℕ) (reason : Option ℕ) → HasCause log entries l level reason → level ≡ 0 → reason ≡ None → ⊥
 decided_zero log entries l level None c none same = absurd (omega (arith, c))
 decided_zero log entries l level (Some id) c none same = absurd cc
+
+-- entries below one of level 0 are of level 0
+pub top_zero : (e : Entry) (es : List Entry) → e.level ≡ 0 → AllByRecursion (λ f. f.level ≤ e.level) es → top es ≡ 0
+top_zero e [] none h = refl
+top_zero e (f ∷ es) none h =
+    let first = h.0 in
+    omega arith
 
 -- at level 0 nothing was decided that was not asked for
 pub asked_zero : (log : List LogLine) (want : List Literal) (entries : List Entry) → IsTrail log entries → top entries ≡ 0 → AskedFirst want entries
 asked_zero log want [] t none = tt
 asked_zero log want (e ∷ entries) t none =
-    ((λ same. absurd (decided_zero log entries e.literal e.level e.reason t.0.cause none same)), asked_zero log want entries t.1 (top_of entries (top_most log (e ∷ entries) t).1))
-  where
-    top_of : (es : List Entry) → AllByRecursion (λ f. f.level ≤ e.level) es → top es ≡ 0
-    top_of [] h = refl
-    top_of (f ∷ es) h =
-        let first = h.0 in
-        omega arith
+    ((λ same. absurd (decided_zero log entries e.literal e.level e.reason t.0.cause none same)), asked_zero log want entries t.1 (top_zero e entries none (top_most log (e ∷ entries) t).1))
 
 -- A complete trail.
 

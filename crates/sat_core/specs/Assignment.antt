@@ -7,7 +7,8 @@ use Rattle.sat_log.specs.declared.line.LogLine.{LogLine}
 pub use Rattle.sat_trail.specs.Assignment.{assignment, AreTrue}
 
 -- one truth value for each variable, which make the originals and all that is wanted true
-pub record IsSolution (variables : ℕ) (log : List LogLine) (want : List Literal) (bits : List Bool) : Type 0 where
+pub record IsSolution (variables : ℕ) (log : List LogLine) (want : List Literal)
+    (bits : List Bool) : Type 0 where
   pub one_each : length bits ≡ variables
   pub originals_true : Satisfies (assignment bits) (originals log)
   pub wanted_true : AreTrue (assignment bits) want

@@ -5,7 +5,7 @@ use Rattle.sat_log.specs.Literal.{Literal, negated}
 use Rattle.sat_log.specs.Clause.{Among}
 use Rattle.sat_log.specs.Accepted.{line_at}
 use Rattle.sat_log.specs.Clauses.{clauses}
-use Rattle.sat_log.specs.Learned.{IsNeeded, IsDrawn, conflicts as conflict_clauses}
+use Rattle.sat_log.specs.Learned.{IsNeeded, IsDrawn, conflict_clauses}
 use Rattle.sat_log.specs.declared.line.LineKind.TheVariants.{Original, Conflict, Final}
 use Rattle.sat_log.specs.declared.line.LogLine.{LogLine}
 
@@ -30,17 +30,18 @@ abbrev pub HasNoFinal : List LogLine → Type 0
 HasNoFinal lines = AllByRecursion (λ line. line.kind ≢ Final) lines
 
 -- A conflict line is needed and drawn over the lines before it; of others nothing is asked.
-pub record IsLearned (before : List LogLine) (line : LogLine) : Type 0 where
+pub record IsNeededAndDrawn (before : List LogLine) (line : LogLine) : Type 0 where
   pub needed : line.kind ≡ Conflict → IsNeeded (clauses before) line.lits
   pub drawn : line.kind ≡ Conflict → IsDrawn before line
 
 -- each of the lines is so over those before it
 abbrev pub AreLearned : List LogLine → List LogLine → Type 0
 AreLearned before [] = Unit {0}
-AreLearned before (line ∷ lines) = IsLearned before line × AreLearned (before ++ line ∷ []) lines
+AreLearned before (line ∷ lines) =
+    IsNeededAndDrawn before line × AreLearned (before ++ line ∷ []) lines
 
--- The line of this id is the last one. It was gained, is final, and its literals are negations of some that
--- are wanted. No other line that was gained is final.
+-- The line of this id is the last one. It was gained, is final, and its literals are negations of
+-- some that are wanted. No other line that was gained is final.
 pub record IsRefusal (old new : List LogLine) (want : List Literal) (id : ℕ) : Type 0 where
   pub line : LogLine
   pub stands : line_at new id ≡ Some line

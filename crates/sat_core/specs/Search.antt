@@ -20,8 +20,8 @@ use Rattle.sat_core.specs.declared.search.Step.{Step}
 use Rattle.sat_core.specs.declared.search.Step.TheVariants.{Learned, Decided, Yes, No}
 use Rattle.sat_core.specs.declared.decide.Decision.TheVariants.{Made, False, Complete}
 
--- how many variables there are, the log, the entries of the trail, the clauses of how many lines are attached, and how many
--- entries propagation has looked at
+-- how many variables there are, the log, the entries of the trail, the clauses of how many lines
+-- are attached, and how many entries propagation has looked at
 pub record Searched : Type 0 where
   pub variables : ℕ
   pub log : List LogLine
@@ -29,8 +29,8 @@ pub record Searched : Type 0 where
   pub attached : ℕ
   pub looked : ℕ
 
--- The log has only variables that exist, each entry of the trail has its cause, no unit was missed where a level opened,
--- and nothing is marked.
+-- The log has only variables that exist, each entry of the trail has its cause, no unit was missed
+-- where a level opened, and nothing is marked.
 pub record KeepsSearch (log : List LogLine) (trail : Trailed) (analysis : Analyzed) : Type 0 where
   pub exist : AreUpTo trail.variables log
   pub trail_is : IsTrail log trail.entries
@@ -51,7 +51,8 @@ AreAmong set c = AllByRecursion (Among set) c
 abbrev pub AskedFirst : List Literal → List Entry → Type 0
 AskedFirst want [] = Unit {0}
 AskedFirst want (e ∷ entries) =
-    (e.reason ≡ None → Among want e.literal ⊎ AreAmong (literals entries) want) × AskedFirst want entries
+    (e.reason ≡ None → Among want e.literal ⊎ AreAmong (literals entries) want) ×
+    AskedFirst want entries
 
 -- what comes of looking for a decision
 abbrev pub IsDecided : List Literal → List Entry → Decision → Type 0
@@ -85,7 +86,8 @@ StepsTo want old new (No id) = (id ≡ length new.log) × AddsFinal want old.log
 
 -- all clauses are attached, and the first of these literals, up to this number, are true
 abbrev pub MayStep : List Literal → ℕ → Searched → Type 0
-MayStep want asked new = (new.attached ≡ length new.log) × AreAmong (literals new.entries) (take asked want)
+MayStep want asked new =
+    (new.attached ≡ length new.log) × AreAmong (literals new.entries) (take asked want)
 
 -- where a search goes on after a step, it may
 abbrev pub GoesOn : List Literal → ℕ → Searched → Step → Type 0
@@ -94,8 +96,8 @@ GoesOn want asked new Decided = MayStep want asked new
 GoesOn want asked new (Yes bits) = Unit {0}
 GoesOn want asked new (No id) = Unit {0}
 
--- The latest literal is the first one of the clause of this id, which implies it: before it all other literals of the
--- clause are false, and it is unset.
+-- The latest literal is the first one of the clause of this id, which implies it: before it all
+-- other literals of the clause are false, and it is unset.
 abbrev pub HasAsserted : List Entry → List Literal → ℕ → Type 0
 HasAsserted [] lits id = ⊥
 HasAsserted (e ∷ entries) [] id = ⊥

@@ -1,5 +1,5 @@
-//! Clauses that came since the last question are attached: two of their literals are watched, or the only one becomes
-//! true.
+//! Clauses that came since the last question are attached: two of their literals are watched, or
+//! the only one becomes true.
 
 ghost use Rattle.std.specs.Prelude.{◌≡◌, ◌<◌, ◌≤◌, ◌+◌, ◌^◌, ℕ, true, false, List, Some, length, IfOk, OnOk, OnErr};
 ghost use Rattle.std.specs.List.{AllByRecursion};
@@ -18,8 +18,8 @@ ghost use Rattle.sat_core.specs.Search.{AskedFirst};
 
 use crate::search::Search;
 use sat_log::{Log, SLit};
-use sat_propagation::Propagation;
-use sat_trail::{Trail, clause_at};
+use sat_propagation::{Line, Propagation};
+use sat_trail::Trail;
 use std::alloc::AllocError;
 
 /// Watches the first two of these literals, for no line yet, if there are two.
@@ -43,19 +43,20 @@ pub(crate) fn watch_two(
     Ok(Some(watcher))
 }
 
-/// Has the whole trail looked at again, if one of two literals that are watched from now on is false.
+/// Has the whole trail looked at again, if one of two literals that are watched from now on is
+/// false.
 fn look_again(trail: &Trail, propagation: &mut Propagation, first: SLit, second: SLit)
     requires first { first.var ≤ trail.now.variables }
     requires second { second.var ≤ trail.now.variables }
     ensures { LooksAgain (literals trail.now.entries) propagation.old propagation.new first second }
 {
     if trail.is_true(first.negated()) || trail.is_true(second.negated()) {
-        propagation.restart();
+        propagation.look_from_start();
     }
 }
 
-/// Makes the literal of a clause that has one at most true, by the line of this id. Answers whether it is: not where it
-/// is false, or there is none.
+/// Makes the literal of a clause that has one at most true, by the line of this id. Answers whether
+/// it is: not where it is false, or there is none.
 fn assert_unit(trail: &mut Trail, clause: &[SLit], id: u64) -> bool
     requires short { length clause.now < 2 }
     requires exist { IsUpTo trail.old.variables clause.now }
@@ -106,14 +107,15 @@ fn attach_clause(
     ensures implied { AddsImplied trail.old.entries trail.new.entries }
     ensures variables { trail.new.variables ≡ trail.old.variables }
 {
-    let clause = match clause_at(log, id) {
+    let clause = match log.clause(id) {
         Some(clause) => clause,
         None => return Ok(true),
     };
     match watch_two(propagation, clause)? {
         Some(watcher) => {
             look_again(trail, propagation, clause[0], clause[1]);
-            propagation.serve(watcher, id);
+            let binary = clause.len() == 2;
+            propagation.serve(watcher, Line { id, binary });
             Ok(true)
         }
         None => Ok(assert_unit(trail, clause, id)),
@@ -144,7 +146,7 @@ impl Search {
         if possible {
             return Ok(());
         }
-        self.refuted = Some(id);
+        self.false_clause = Some(id);
         Ok(())
     }
 

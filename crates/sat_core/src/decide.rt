@@ -23,7 +23,8 @@ pub(crate) enum Decision {
     Complete,
 }
 
-/// The first of the wanted literals that is not true, where so many are known to be. All before it are then.
+/// The first of the wanted literals that is not true, where so many are known to be. All before it
+/// are then.
 fn first_open(trail: &Trail, want: &[SLit], asked: &mut usize) -> Option<SLit>
     requires exist { IsUpTo trail.now.variables want.now }
     requires true_ { AreAmong (literals trail.now.entries) (take asked.old want.now) }
@@ -42,8 +43,8 @@ fn first_open(trail: &Trail, want: &[SLit], asked: &mut usize) -> Option<SLit>
 }
 
 impl Search {
-    /// Decides the first wanted literal that is not true, where so many are known to be, and else a variable that has no
-    /// value.
+    /// Decides the first wanted literal that is not true, where so many are known to be, and else a
+    /// variable that has no value.
     pub(crate) fn decide(&mut self, want: &[SLit], asked: &mut usize) -> Decision
         requires exist { IsUpTo self.old.variables want.now }
         requires quiet { AreQuiet (literals self.old.entries) (clauses self.old.log) }

@@ -16,7 +16,7 @@ use crate::attach::watch_two;
 use crate::search::Search;
 use sat_analysis::Analysis;
 use sat_log::{AppendFault, LineKind, Log, LogLine, SLit};
-use sat_propagation::Propagation;
+use sat_propagation::{Line, Propagation};
 use std::alloc::{AllocError, Global};
 
 /// Appends a line that the log accepts.
@@ -57,23 +57,24 @@ fn append_final(alloc: Global, log: &mut Log, analysis: &Analysis) -> Result<u64
     append(log, line)
 }
 
-/// Makes two literals that are watched, if they are, stand for the line of this id.
-fn serve(propagation: &mut Propagation, watcher: Option<usize>, id: u64)
+/// Makes two literals that are watched, if they are, stand for this line.
+fn serve(propagation: &mut Propagation, watcher: Option<usize>, line: Line)
     requires { IfSome watcher (λ w. w < length propagation.old.watched.pairs) }
-    ensures { ServesIf propagation.old propagation.new watcher id }
+    ensures { ServesIf propagation.old propagation.new watcher line }
 {
     if let Some(watcher) = watcher {
-        propagation.serve(watcher, id);
+        propagation.serve(watcher, line);
     }
 }
 
 impl Search {
-    /// Learns the clause of a conflict above level 0, jumps back to the latest level among its literals but the one that it
-    /// asserts, and makes that one true.
+    /// Learns the clause of a conflict above level 0, jumps back to the latest level among its
+    /// literals but the one that it asserts, and makes that one true.
     ///
     /// # Errors
     ///
-    /// `AllocError` where memory is refused; all stays as it was.
+    /// `AllocError` where memory is refused; the log stays as it was. Two literals may be watched
+    /// for no line then, and stay so.
     pub(crate) fn learn(&mut self, conflict: u64) -> Result<(), AllocError>
         requires log { IsLog self.old.log }
         requires conflict { IsConflict self.old.log (literals self.old.entries) conflict }
@@ -81,7 +82,8 @@ impl Search {
         requires attached { self.old.attached ≡ length self.old.log }
         ensures ok { OnOk result (AddsLearned self.old.log self.new.log) }
         ensures err { OnErr result (self.new.log ≡ self.old.log) }
-        // The jump goes to exactly the latest level among the clause's literals but the first, which the clause then implies.
+        // After the jump all literals but the first are false, and the clause implies the first.
+        // That the jump is no shorter, and misses no unit, is in the invariant.
         ensures jump { (line : LogLine) → self.new.log ≡ self.old.log ++ line ∷ [] →
             HasAsserted self.new.entries line.lits (length self.new.log) }
         ensures attached { OnOk result (self.new.attached ≡ length self.new.log) }
@@ -93,12 +95,13 @@ impl Search {
         let line = self.analysis.line(self.alloc, LineKind::Conflict)?;
         let level = self.analysis.jump_level(&self.trail);
         let asserted = line.lits.as_slice()[0];
+        let binary = line.lits.len() == 2;
         let watcher = watch_two(&mut self.propagation, line.lits.as_slice())?;
         let id = append(&mut self.log, line)?;
         self.trail.prefer(self.analysis.met());
         self.propagation.backjump(&mut self.trail, level);
         self.trail.imply(asserted, id);
-        serve(&mut self.propagation, watcher, id);
+        serve(&mut self.propagation, watcher, Line { id, binary });
         self.attached = id;
         Ok(())
     }

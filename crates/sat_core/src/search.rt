@@ -7,7 +7,7 @@ ghost use Rattle.sat_log.specs.Clause.{HasDistinctVariables};
 ghost use Rattle.sat_log.specs.Accepted.{IsLog};
 ghost use Rattle.sat_log.specs.Clauses.{clauses};
 ghost use Rattle.sat_log.specs.Checking.{IsUpTo, AreUpTo};
-ghost use Rattle.sat_log.specs.Kept.{original, AreProper};
+ghost use Rattle.sat_log.specs.Lines.{original, AreProper};
 ghost use Rattle.sat_trail.specs.Assignment.{assignment, AreTrue};
 ghost use Rattle.sat_core.specs.Assignment.{IsSolution, HasNoSolution};
 ghost use Rattle.sat_core.specs.Gained.{gained, HasNoOriginal};
@@ -51,7 +51,7 @@ pub(crate) struct Search {
     /// The clauses of so many lines are attached: each is watched, or true at level 0.
     pub(crate) attached: u64,
     /// A clause that is false at level 0, by its id.
-    pub(crate) refuted: Option<u64>,
+    pub(crate) false_clause: Option<u64>,
 }
 
 impl Model for Search {
@@ -69,7 +69,7 @@ impl Model for Search {
     } };
 
     ghost invariant = { λ s. KeepsSearch s.log s.trail s.analysis.state ×
-        KeepsAttached s.log s.trail s.propagation s.attached s.refuted };
+        KeepsAttached s.log s.trail s.propagation s.attached s.false_clause };
 }
 
 impl Search {
@@ -94,14 +94,17 @@ impl Search {
             analysis: Analysis::new(alloc)?,
             propagation: Propagation::new(alloc)?,
             attached: 0,
-            refuted: None,
+            false_clause: None,
         })
     }
 
     /// The log.
     pub(crate) fn log(&self) -> &Log
         ensures log { result.now ≡ self.now.log }
+        ensures is_log { IsLog self.now.log }
     {
+        // That it is one comes with the number of its lines.
+        let _lines = self.log.count();
         &self.log
     }
 
@@ -217,8 +220,8 @@ impl Search {
         self.propagation.backjump(&mut self.trail, 0);
     }
 
-    /// Makes true what unit clauses imply, where all clauses are attached. Answers the id of a clause that is false, if
-    /// one is.
+    /// Makes true what unit clauses imply, where all clauses are attached. Answers the id of a
+    /// clause that is false, if one is.
     fn propagate(&mut self) -> Option<u64>
         requires log { IsLog self.old.log }
         requires attached { self.old.attached ≡ length self.old.log }
@@ -237,14 +240,14 @@ impl Search {
         ensures exist { AreUpTo self.new.variables self.new.log }
         ensures variables { self.new.variables ≡ self.old.variables }
     {
-        if self.refuted.is_some() {
-            return self.refuted;
+        if self.false_clause.is_some() {
+            return self.false_clause;
         }
         self.propagation.propagate(&self.log, &mut self.trail)
     }
 
-    /// One step of a search: propagation, and then a clause that is learned, a decision, or an answer. So many of the wanted
-    /// literals are known to be true.
+    /// One step of a search: propagation, and then a clause that is learned, a decision, or an
+    /// answer. So many of the wanted literals are known to be true.
     ///
     /// # Errors
     ///
@@ -291,7 +294,8 @@ impl Search {
         ensures no_original { HasNoOriginal (gained self.old.log self.new.log) }
         ensures variables { self.new.variables ≡ self.old.variables }
     {
-        // By these laws the loop ends, what it learns is fresh, and a final line refutes what is wanted.
+        // By these laws the loop ends, what it learns is fresh, and a final line refutes what is
+        // wanted.
         learned_lines_are_few();
         learned_lines_are_fresh();
         final_line_refutes();

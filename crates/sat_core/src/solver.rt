@@ -1,8 +1,9 @@
 ghost use Rattle.std.specs.Prelude.{◌≡◌, ◌≢◌, ◌+◌, ◌++◌, ◌∷◌, [], length, map, IfOk, OnOk, OnErr};
 ghost use Rattle.std.specs.List.{AllByRecursion};
 ghost use Rattle.sat_log.specs.Clause.{HasDistinctVariables};
+ghost use Rattle.sat_log.specs.Accepted.{IsLog};
 ghost use Rattle.sat_log.specs.Checking.{IsUpTo, AreUpTo};
-ghost use Rattle.sat_log.specs.Kept.{original, AreProper};
+ghost use Rattle.sat_log.specs.Lines.{original, AreProper};
 ghost use Rattle.sat_log.specs.Learned.{AllFresh};
 ghost use Rattle.sat_core.specs.Assignment.{IsSolution, HasNoSolution};
 ghost use Rattle.sat_core.specs.Gained.{gained, HasNoOriginal, AreLearned};
@@ -16,8 +17,8 @@ use sat_log::{Log, SLits};
 use std::alloc::{AllocError, Global};
 use std::marker::Model;
 
-/// A solver that is kept from one question to the next (Eén and Sörensson 2003). It learns a clause from
-/// each conflict (Marques-Silva and Sakallah 1996), and appends it to its log.
+/// A solver that is kept from one question to the next (Eén and Sörensson 2003). It learns a clause
+/// from each conflict (Marques-Silva and Sakallah 1996), and appends it to its log.
 #[derive(Debug, Drop)]
 pub struct Solver {
     search: Search,
@@ -112,6 +113,7 @@ impl Solver {
     /// The clauses, and what was learned from them.
     pub fn log(&self) -> &Log
         ensures value { result.now ≡ self.now.log }
+        ensures is_log { IsLog self.now.log }
         // Each conflict line is needed and drawn over the lines before it, and so fresh.
         ensures learned { AreLearned [] self.now.log }
         ensures fresh { AllFresh [] self.now.log }
@@ -124,7 +126,8 @@ impl Solver {
     ///
     /// # Errors
     ///
-    /// `AllocError` where memory is refused; the log may have gained conflict lines, within the budget.
+    /// `AllocError` where memory is refused; the log may have gained conflict lines, within the
+    /// budget.
     pub fn solve(&mut self, want: &SLits, budget: Budget) -> Result<Verdict, AllocError>
         requires distinct { HasDistinctVariables want.now }
         requires exist { IsUpTo self.old.variables want.now }

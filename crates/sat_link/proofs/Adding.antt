@@ -8,7 +8,7 @@ use Rattle.sat_log.proofs.ListLemmas.{All-append}
 use Rattle.sat_log.proofs.LogLemmas.{log_push}
 use Rattle.sat_log.specs.Clause.{AreLiterals}
 use Rattle.sat_log.specs.Accepted.{given, originals, IsLog}
-use Rattle.sat_log.specs.Kept.{original, AreProper}
+use Rattle.sat_log.specs.Lines.{original, AreProper}
 use Rattle.sat_log.specs.declared.line.LineKind.{LineKind}
 use Rattle.sat_log.specs.declared.line.LineKind.TheVariants.{Original, Conflict, Final}
 use Rattle.sat_log.specs.declared.line.LogLine.{LogLine}

@@ -15,7 +15,7 @@ use Rattle.sat_log.specs.declared.line.LogLine.{LogLine}
 use Rattle.sat_core.specs.Assignment.{assignment, AreTrue as AreTrueVariables, IsSolution as IsAssignment, HasNoSolution as HasNoAssignment}
 use Rattle.sat_core.specs.Verdicts.{IfYes as IfFoundYes, IfNo as IfFoundNo, IsBelow, IsWithin}
 use Rattle.sat_core.specs.Gained.{gained, conflicts}
-use Rattle.sat_core.specs.Gains.{Outcome, found, refuted, spent, stopped, EndsAs, Gains, outcome as outcome_found}
+use Rattle.sat_core.specs.Gains.{Outcome, Satisfied, Refuted, OutOfBudget, OutOfMemory, EndsAs, Gains, outcome as outcome_found}
 use Rattle.sat_core.specs.declared.budget.Budget.{Budget}
 use Rattle.sat_core.specs.declared.budget.Budget.TheVariants.{Unset, Of}
 use Rattle.sat_core.specs.declared.verdict.Verdict.{Verdict as Found}
@@ -114,19 +114,19 @@ gains_told gates variables budget want old new (answer.Yes bits) (Ok (Yes values
 gains_told gates variables budget want old new (answer.Yes bits) (Ok (No id)) t g = absurd t
 gains_told gates variables budget want old new (answer.Yes bits) (Ok (Spent n)) t g = absurd t
 gains_told gates variables budget want old new (answer.Yes bits) (Err e) t g =
-    gains_end variables budget want old new found stopped (λ h. (h.0, below_within budget (conflicts (gained old new)) h.1)) g
+    gains_end variables budget want old new Satisfied OutOfMemory (λ h. (h.0, below_within budget (conflicts (gained old new)) h.1)) g
 gains_told gates variables budget want old new (answer.No id) (Ok (Yes values)) t g = absurd t
-gains_told gates variables budget want old new (answer.No id) (Ok (No id')) t g = subst (λ i. Gains variables budget want old new (refuted i)) (sym t) g
+gains_told gates variables budget want old new (answer.No id) (Ok (No id')) t g = subst (λ i. Gains variables budget want old new (Refuted i)) (sym t) g
 gains_told gates variables budget want old new (answer.No id) (Ok (Spent n)) t g = absurd t
 gains_told gates variables budget want old new (answer.No id) (Err e) t g = absurd t
 gains_told gates variables budget want old new (answer.Spent n) (Ok (Yes values)) t g = absurd t
 gains_told gates variables budget want old new (answer.Spent n) (Ok (No id)) t g = absurd t
-gains_told gates variables budget want old new (answer.Spent n) (Ok (Spent n')) t g = subst (λ m. Gains variables budget want old new (spent m)) (sym t) g
+gains_told gates variables budget want old new (answer.Spent n) (Ok (Spent n')) t g = subst (λ m. Gains variables budget want old new (OutOfBudget m)) (sym t) g
 gains_told gates variables budget want old new (answer.Spent n) (Err e) t g = absurd t
 
 -- what a `?` returns
 pub gains_stopped : {F : Type 0} (variables : ℕ) (budget : Budget) (want : List SolverLiteral) (old new : List LogLine) (Q : F → Type 0) (r : Result Verdict F) → IsErrAnd r Q
-    → Gains variables budget want old new stopped → Gains variables budget want old new (outcome r)
+    → Gains variables budget want old new OutOfMemory → Gains variables budget want old new (outcome r)
 gains_stopped {F} variables budget want old new Q r q g =
     subst (Gains variables budget want old new) (sym (ap (λ (s : Result Verdict F). outcome s) (err_from_is_err_and r q).1)) g
 

@@ -4,18 +4,18 @@ use Rattle.std.proofs.Math.Nat.{pow-suc}
 use Rattle.std.specs.Prelude.{option_to_list}
 use Rattle.std.specs.List.{AllByRecursion}
 use Rattle.std.proofs.Math.Seq.{drop-append_seam}
-use Rattle.std.proofs.lemmas.List.{append-nil, drop_all}
+use Rattle.std.proofs.lemmas.List.{append-nil}
 use Rattle.sat_log.specs.Literal.{Literal}
 use Rattle.sat_log.specs.Accepted.{IsLog}
-use Rattle.sat_log.specs.Learned.{IsFreshOfKind, AllFresh, learned, conflicts as conflict_clauses}
+use Rattle.sat_log.specs.Learned.{IsFreshOfKind, AllFresh, learned, conflict_clauses}
 use Rattle.sat_log.specs.declared.line.LineKind.{LineKind}
 use Rattle.sat_log.specs.declared.line.LineKind.TheVariants.{Original, Conflict, Final}
 use Rattle.sat_log.specs.declared.line.LogLine.{LogLine}
-use Rattle.sat_core.specs.Gained.{gained, IsLonger, conflicts, HasNoFinal, IsLearned, AreLearned, IsRefusal}
-use Rattle.sat_core.specs.Gains.{Outcome, found, refuted, spent, stopped, EndsAs, Gains}
+use Rattle.sat_core.specs.Gained.{gained, IsLonger, conflicts, HasNoFinal, IsNeededAndDrawn, AreLearned, IsRefusal}
+use Rattle.sat_core.specs.Gains.{Outcome, Satisfied, Refuted, OutOfBudget, OutOfMemory, EndsAs, Gains}
 use Rattle.sat_core.specs.Verdicts.{IsBelow, IsWithin}
 use Rattle.sat_core.specs.declared.budget.Budget.{Budget}
-use Rattle.sat_core.specs.declared.budget.Budget.TheVariants.{Unset, Of}
+use Rattle.sat_core.proofs.Runs.{gained_none, within_none}
 use Rattle.sat_link.specs.Contents.{AddsOriginals}
 
 original_not : (k other : LineKind) → k ≡ Original → Original ≢ other → k ≢ other
@@ -33,7 +33,7 @@ gained_after old mid new adds longer =
     ap (drop (length old)) (longer ∙ ap (λ ls. ls ++ gained mid new) adds.longer ∙ append_assoc old adds.added (gained mid new))
     ∙ drop-append_seam old (adds.added ++ gained mid new)
 
-learned_original : (before : List LogLine) (line : LogLine) → line.kind ≡ Original → IsLearned before line
+learned_original : (before : List LogLine) (line : LogLine) → line.kind ≡ Original → IsNeededAndDrawn before line
 learned_original before line e = record {
   needed = λ conflict. absurd (original_not line.kind Conflict e original_apart conflict);
   drawn = λ conflict. absurd (original_not line.kind Conflict e original_apart conflict);
@@ -97,13 +97,13 @@ refusal_after old mid new want id adds longer r = record {
 }
 
 ends_after : (budget : Budget) (want : List Literal) (old mid new : List LogLine) (end : Outcome) → AddsOriginals old mid → IsLonger mid new → EndsAs budget want mid new end → EndsAs budget want old new end
-ends_after budget want old mid new found adds longer h =
+ends_after budget want old mid new Satisfied adds longer h =
     (no_final_after old mid new adds longer h.0, subst (IsBelow budget) (conflicts_after old mid new adds longer) h.1)
-ends_after budget want old mid new (refuted id) adds longer h =
+ends_after budget want old mid new (Refuted id) adds longer h =
     (refusal_after old mid new want id adds longer h.0, subst (IsBelow budget) (conflicts_after old mid new adds longer) h.1)
-ends_after budget want old mid new (spent n) adds longer h =
+ends_after budget want old mid new (OutOfBudget n) adds longer h =
     (no_final_after old mid new adds longer h.0, h.1, sym (conflicts_after old mid new adds longer) ∙ h.2)
-ends_after budget want old mid new stopped adds longer h =
+ends_after budget want old mid new OutOfMemory adds longer h =
     (no_final_after old mid new adds longer h.0, subst (IsWithin budget) (conflicts_after old mid new adds longer) h.1)
 
 pub gains_after : (variables : ℕ) (budget : Budget) (want : List Literal) (old mid new : List LogLine) (end : Outcome) → AddsOriginals old mid → Gains variables budget want mid new end → Gains variables budget want old new end
@@ -122,16 +122,9 @@ power_positive : (n : ℕ) → 0 < 3 ^ n
 power_positive zero = omega arith
 power_positive (suc n) = omega (arith, pow-suc 3 n, power_positive n)
 
-within_none : (budget : Budget) → IsWithin budget 0
-within_none Unset = tt
-within_none (Of most) = omega arith
-
-nothing_gained : (log : List LogLine) → gained log log ≡ []
-nothing_gained log = drop_all (length log) log (omega arith)
-
-gains_none : (variables : ℕ) (budget : Budget) (want : List Literal) (log : List LogLine) → IsLog log → Gains variables budget want log log stopped
+gains_none : (variables : ℕ) (budget : Budget) (want : List Literal) (log : List LogLine) → IsLog log → Gains variables budget want log log OutOfMemory
 gains_none variables budget want log h =
-    let none = sym (nothing_gained log) in
+    let none = sym (gained_none log) in
     record {
       longer = sym (append-nil log) ∙ ap (λ ls. log ++ ls) none;
       is_log = h;
@@ -141,6 +134,6 @@ gains_none variables budget want log h =
       ends = (subst HasNoFinal none tt, subst (λ ls. IsWithin budget (conflicts ls)) none (within_none budget));
     }
 
-pub gains_only : (variables : ℕ) (budget : Budget) (want : List Literal) (old mid : List LogLine) → AddsOriginals old mid → IsLog mid → Gains variables budget want old mid stopped
+pub gains_only : (variables : ℕ) (budget : Budget) (want : List Literal) (old mid : List LogLine) → AddsOriginals old mid → IsLog mid → Gains variables budget want old mid OutOfMemory
 gains_only variables budget want old mid adds h =
-    gains_after variables budget want old mid mid stopped adds (gains_none variables budget want mid h)
+    gains_after variables budget want old mid mid OutOfMemory adds (gains_none variables budget want mid h)

@@ -8,7 +8,7 @@ use Rattle.gates.specs.declared.node.Node.TheVariants.{True, Input, And}
 use Rattle.gates.specs.Nodes.{StandsAt}
 use Rattle.sat_log.specs.Clause.{AreLiterals}
 use Rattle.sat_log.specs.Accepted.{originals, IsLog}
-use Rattle.sat_log.specs.Kept.{original, AreProper}
+use Rattle.sat_log.specs.Lines.{original, AreProper}
 use Rattle.sat_core.specs.Contents.{Contents as SolverContents}
 use Rattle.sat_link.specs.Encoding.{clauses_of, clauses_from, definitions}
 use Rattle.sat_link.specs.Contents.{KeepsClauses}

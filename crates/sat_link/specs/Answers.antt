@@ -6,7 +6,7 @@ use Rattle.gates.specs.declared.node.Node.{Node}
 use Rattle.gates.specs.Valuation.{value_of, IsValuation}
 use Rattle.sat_core.specs.declared.verdict.Verdict.{Verdict as Found}
 use Rattle.sat_core.specs.declared.verdict.Verdict.TheVariants as answer
-use Rattle.sat_core.specs.Gains.{Outcome, found, refuted, spent, stopped}
+use Rattle.sat_core.specs.Gains.{Outcome, Satisfied, Refuted, OutOfBudget, OutOfMemory}
 use Rattle.sat_link.specs.declared.verdict.Verdict.{Verdict}
 use Rattle.sat_link.specs.declared.verdict.Verdict.TheVariants.{Yes, No, Spent}
 
@@ -45,10 +45,10 @@ IfNo (Err e) P = Unit {0}
 
 -- what an answer says of how the search ended
 abbrev pub outcome : {E : Type 0} → Result Verdict E → Outcome
-outcome (Ok (Yes bits)) = found
-outcome (Ok (No id)) = refuted id
-outcome (Ok (Spent n)) = spent n
-outcome (Err e) = stopped
+outcome (Ok (Yes bits)) = Satisfied
+outcome (Ok (No id)) = Refuted id
+outcome (Ok (Spent n)) = OutOfBudget n
+outcome (Err e) = OutOfMemory
 
 -- the truth values of a Yes are those of nodes, and maybe of one variable more
 abbrev pub IsValued : List Node → Found → Type 0
@@ -62,7 +62,8 @@ pub record AreFirst (nodes : List Node) (bits values : List Bool) : Type 0 where
   pub one_each : length values ≡ length nodes
   pub valuation : IsValuation nodes values
 
--- An answer over nodes says the same as one over variables, but that memory may be refused for truth values.
+-- An answer over nodes says the same as one over variables, but that memory may be refused for
+-- truth values.
 abbrev pub Tells : {E : Type 0} → List Node → Found → Result Verdict E → Type 0
 Tells nodes (answer.Yes bits) (Ok (Yes values)) = AreFirst nodes bits values
 Tells nodes (answer.Yes bits) (Err e) = Unit {0}

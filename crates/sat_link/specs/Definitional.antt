@@ -6,8 +6,8 @@ use Rattle.sat_log.specs.Literal.{Literal}
 use Rattle.sat_log.specs.Clauses.{Satisfies}
 use Rattle.sat_core.specs.Assignment.{assignment}
 
--- The clauses define gates and demand nothing: whatever values the inputs have, they are true where each
--- conjunction has the value that its parts give it.
+-- The clauses define gates and demand nothing: whatever values the inputs have, they are true where
+-- each conjunction has the value that its parts give it.
 abbrev pub IsDefinitional : List Node → List (List Literal) → Type 0
 IsDefinitional nodes clauses = (values : List Bool) → IsValuation nodes values →
     Satisfies (assignment values) clauses

@@ -15,9 +15,11 @@ all_encoded ls = map encoded ls
 
 -- the literal x is false where one of two others is, and true where both are
 abbrev pub joint_clauses : Literal → Literal → Literal → List (List Literal)
-joint_clauses x a b = (negated x ∷ a ∷ []) ∷ (negated x ∷ b ∷ []) ∷ (x ∷ negated a ∷ negated b ∷ []) ∷ []
+joint_clauses x a b =
+    (negated x ∷ a ∷ []) ∷ (negated x ∷ b ∷ []) ∷ (x ∷ negated a ∷ negated b ∷ []) ∷ []
 
--- The clauses of a node: the constant is true, an input is free, and a conjunction is that of its parts.
+-- The clauses of a node: the constant is true, an input is free, and a conjunction is that of its
+-- parts.
 abbrev pub clauses_of : ℕ → Node → List (List Literal)
 clauses_of n True = (encoded (positive n) ∷ []) ∷ []
 clauses_of n Input = []

@@ -1,7 +1,7 @@
 ghost use Rattle.std.specs.Prelude.{◌≡◌, ◌+◌, ◌^◌, ◌<◌, ◌≤◌, ◌++◌, max, map, IfOk, OnOk, OnErr};
 ghost use Rattle.gates.specs.Literal.{span};
 ghost use Rattle.gates.specs.Nodes.{StandsAt};
-ghost use Rattle.sat_log.specs.Kept.{original};
+ghost use Rattle.sat_log.specs.Lines.{original};
 ghost use Rattle.sat_link.specs.Encoding.{encoded, all_encoded, joint_clauses, clauses_of};
 
 use gates::{Lit, Lits, Node};

@@ -22,7 +22,8 @@ use sat_log::{Log, SLits};
 use std::alloc::{AllocError, Global};
 use std::marker::Model;
 
-/// A solver that is kept over gates that grow (Eén and Sörensson 2003). Node `n` is its variable `n + 1`.
+/// A solver that is kept over gates that grow (Eén and Sörensson 2003). Node `n` is its variable `n
+/// + 1`.
 #[derive(Drop)]
 pub struct Kept {
     alloc: Global,
@@ -121,13 +122,13 @@ impl Kept {
 
     /// Says whether all literals of `want` can be true together.
     ///
-    /// Nodes without clauses get them first. What is wanted is assumed and is no clause, so the answer to
-    /// one question leaves nothing behind that binds the next.
+    /// Nodes without clauses get them first. What is wanted is assumed and is no clause, so the
+    /// answer to one question leaves nothing behind that binds the next.
     ///
     /// # Errors
     ///
-    /// `AllocError` where memory is refused; some nodes more may have their clauses, and the log may have
-    /// gained conflict lines, within the budget.
+    /// `AllocError` where memory is refused; some nodes more may have their clauses, and the log
+    /// may have gained conflict lines, within the budget.
     pub fn ask(&mut self, g: &Gates, want: &Lits, budget: Budget) -> Result<Verdict, AllocError>
         requires distinct { HasDistinctNodes want.now }
         requires exist { AllBelong g.now want.now }

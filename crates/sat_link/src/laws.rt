@@ -7,7 +7,8 @@ ghost use Rattle.sat_log.specs.Literal.{Literal};
 ghost use Rattle.sat_link.specs.Encoding.{definitions};
 ghost use Rattle.sat_link.specs.Definitional.{IsDefinitional, IsWhole};
 
-/// The clauses of nodes define them: they are true exactly where each node has a value that it may have.
+/// The clauses of nodes define them: they are true exactly where each node has a value that it may
+/// have.
 pub fn clauses_define_nodes()
     ensures definitional { (nodes : List Node) → IsDefinitional nodes (definitions nodes) }
     ensures whole { (nodes : List Node) → WellFormed nodes → IsWhole nodes (definitions nodes) }

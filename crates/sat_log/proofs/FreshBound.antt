@@ -9,12 +9,14 @@ use Rattle.std.proofs.lemmas.List.{append-nil, length-map}
 use Rattle.std.proofs.lemmas.Map.Steps.{length-le_from_distinct_below}
 use Rattle.sat_log.specs.Literal.{Literal, negated}
 use Rattle.sat_log.specs.Clause.{Among, HasDistinctVariables, AreLiterals}
-use Rattle.sat_log.specs.Learned.{IsWithin, IsFresh, IsFreshOfKind, AllFresh, learned, conflicts}
+use Rattle.sat_log.specs.Learned.{Subsumes, IsFresh, IsFreshOfKind, AllFresh, learned, conflict_clauses}
 use Rattle.sat_log.specs.Checking.{is_set, IsUpTo, AreUpTo}
 use Rattle.sat_log.specs.Accepted.{hinted, clause_at, Refutes, IsOfKind, AreLines, IsLog}
 use Rattle.sat_log.specs.Clauses.{clauses}
 use Rattle.sat_log.proofs.Decided.{among_from_set, set_from_among, unset_from}
 use Rattle.sat_log.proofs.Implied.{clauses-append}
+use Rattle.sat_log.proofs.ListLemmas.{All-front, All-back}
+use Rattle.sat_log.proofs.LogLemmas.{lines_front}
 use Rattle.sat_log.proofs.LiteralLemmas.{literal_of, All-among, All-from_among}
 use Rattle.sat_log.specs.declared.line.LineKind.{LineKind}
 use Rattle.sat_log.specs.declared.line.LineKind.TheVariants.{Original, Conflict, Final}
@@ -103,7 +105,7 @@ same_choices c d (suc n) v e first last =
 abbrev IsChoice : ℕ → List Literal → Type 0
 IsChoice n c = HasDistinctVariables c × AllByRecursion (λ l. (1 ≤ l.var) × (l.var ≤ n)) c
 
-same_code_within : (c d : List Literal) (n : ℕ) → IsChoice n c → code c n ≡ code d n → IsWithin c d
+same_code_within : (c d : List Literal) (n : ℕ) → IsChoice n c → code c n ≡ code d n → Subsumes c d
 same_code_within c d n h e =
     All-from_among (Among d) c (λ l m. (
     let range = All-among (λ k. (1 ≤ k.var) × (k.var ≤ n)) c l h.1 m in
@@ -113,7 +115,7 @@ same_code_within c d n h e =
 -- A clause that stands before others is within none that is fresh over them.
 
 IsKept : List Literal → List LogLine → Type 0
-IsKept c log = (d : List Literal) → IsFresh (clauses log) d → ¬ IsWithin c d
+IsKept c log = (d : List Literal) → IsFresh (clauses log) d → ¬ Subsumes c d
 
 fresh_split : (cs ds : List (List Literal)) (d : List Literal) → IsFresh (cs ++ ds) d → IsFresh cs d × IsFresh ds d
 fresh_split [] ds d h = (tt, h)
@@ -132,24 +134,24 @@ kept_last log line kind d h =
     let last = subst (λ k. IsFresh (option_to_list (hinted k line.lits) ++ []) d) kind (fresh_before log line d h).1 in
     last.0
 
-apart_codes : (n : ℕ) (c : List Literal) → IsChoice n c → (log gained : List LogLine) → IsKept c log → AllFresh log gained → AllByRecursion (λ m. eqb (code c n) m ≡ false) (map (λ d. code d n) (conflicts gained))
+apart_codes : (n : ℕ) (c : List Literal) → IsChoice n c → (log gained : List LogLine) → IsKept c log → AllFresh log gained → AllByRecursion (λ m. eqb (code c n) m ≡ false) (map (λ d. code d n) (conflict_clauses gained))
 unfolding IsKept
 apart_codes n c h log [] kept f = tt
 apart_codes n c h log (line ∷ gained) kept f = by_kind line.kind f.0 (apart_codes n c h (log ++ line ∷ []) gained (kept_more c log line kept) f.1)
   where
-    by_kind : (kind : LineKind) → IsFreshOfKind kind log line.lits → AllByRecursion (λ m. eqb (code c n) m ≡ false) (map (λ d. code d n) (conflicts gained)) → AllByRecursion (λ m. eqb (code c n) m ≡ false) (map (λ d. code d n) (option_to_list (learned kind line.lits) ++ conflicts gained))
+    by_kind : (kind : LineKind) → IsFreshOfKind kind log line.lits → AllByRecursion (λ m. eqb (code c n) m ≡ false) (map (λ d. code d n) (conflict_clauses gained)) → AllByRecursion (λ m. eqb (code c n) m ≡ false) (map (λ d. code d n) (option_to_list (learned kind line.lits) ++ conflict_clauses gained))
     by_kind Original f rest = rest
     by_kind Conflict f rest = (ne_eqb _ _ (λ e. kept line.lits f (same_code_within c line.lits n h e)), rest)
     by_kind Final f rest = rest
 
-distinct_codes : (n : ℕ) (log gained : List LogLine) → AllByRecursion (IsChoice n) (conflicts gained) → AllFresh log gained → IsDistinct eqb (map (λ d. code d n) (conflicts gained))
+distinct_codes : (n : ℕ) (log gained : List LogLine) → AllByRecursion (IsChoice n) (conflict_clauses gained) → AllFresh log gained → IsDistinct eqb (map (λ d. code d n) (conflict_clauses gained))
 unfolding IsDistinct
 distinct_codes n log [] h f = tt
 distinct_codes n log (line ∷ gained) h f = by_kind line.kind refl h (λ rest. distinct_codes n (log ++ line ∷ []) gained rest f.1)
   where
-    by_kind : (kind : LineKind) → line.kind ≡ kind → AllByRecursion (IsChoice n) (option_to_list (learned kind line.lits) ++ conflicts gained)
-        → (AllByRecursion (IsChoice n) (conflicts gained) → IsDistinct eqb (map (λ d. code d n) (conflicts gained)))
-        → IsDistinct eqb (map (λ d. code d n) (option_to_list (learned kind line.lits) ++ conflicts gained))
+    by_kind : (kind : LineKind) → line.kind ≡ kind → AllByRecursion (IsChoice n) (option_to_list (learned kind line.lits) ++ conflict_clauses gained)
+        → (AllByRecursion (IsChoice n) (conflict_clauses gained) → IsDistinct eqb (map (λ d. code d n) (conflict_clauses gained)))
+        → IsDistinct eqb (map (λ d. code d n) (option_to_list (learned kind line.lits) ++ conflict_clauses gained))
     by_kind Original e h rest = rest h
     by_kind Conflict e h rest = (apart_codes n line.lits h.0 (log ++ line ∷ []) gained (kept_last log line e) f.1, rest h.1)
     by_kind Final e h rest = rest h
@@ -173,26 +175,26 @@ in_range : (n : ℕ) (c : List Literal) → AreLiterals c → IsUpTo n c → All
 in_range n [] a u = tt
 in_range n (l ∷ c) a u = ((a.0.0, u.0), in_range n c a.1 u.1)
 
-lines_choices : (n : ℕ) (before gained : List LogLine) → AreLines before gained → AreUpTo n gained → AllByRecursion (IsChoice n) (conflicts gained)
+lines_choices : (n : ℕ) (before gained : List LogLine) → AreLines before gained → AreUpTo n gained → AllByRecursion (IsChoice n) (conflict_clauses gained)
 lines_choices n before [] h u = tt
 lines_choices n before (line ∷ gained) h u =
     by_kind line.kind h.0.1 (in_range n line.lits h.0.0 u.0) (lines_choices n (before ++ line ∷ []) gained h.1 u.1)
   where
     by_kind : (kind : LineKind) → IsOfKind kind before line → AllByRecursion (λ l. (1 ≤ l.var) × (l.var ≤ n)) line.lits
-        → AllByRecursion (IsChoice n) (conflicts gained) → AllByRecursion (IsChoice n) (option_to_list (learned kind line.lits) ++ conflicts gained)
+        → AllByRecursion (IsChoice n) (conflict_clauses gained) → AllByRecursion (IsChoice n) (option_to_list (learned kind line.lits) ++ conflict_clauses gained)
     by_kind Original k r rest = rest
     by_kind Conflict k r rest = ((k.distinct, r), rest)
     by_kind Final k r rest = rest
 
 -- A clause that stands before the gained lines is one choice more.
 
-few_after : (n : ℕ) (c : List Literal) (before gained : List LogLine) → IsChoice n c → IsKept c before → AllByRecursion (IsChoice n) (conflicts gained) → AllFresh before gained → length (conflicts gained) < 3 ^ n
+few_after : (n : ℕ) (c : List Literal) (before gained : List LogLine) → IsChoice n c → IsKept c before → AllByRecursion (IsChoice n) (conflict_clauses gained) → AllFresh before gained → length (conflict_clauses gained) < 3 ^ n
 unfolding IsDistinct
 few_after n c before gained h kept choices fresh =
-    let codes : List ℕ = map (λ d. code d n) (conflicts gained) in
+    let codes : List ℕ = map (λ d. code d n) (conflict_clauses gained) in
     let distinct : IsDistinct eqb (code c n ∷ codes) = (apart_codes n c h before gained kept fresh, distinct_codes n before gained choices fresh) in
-    let few : length (code c n ∷ codes) ≤ 3 ^ n = length-le_from_distinct_below (code c n ∷ codes) (3 ^ n) distinct (codes_below n (c ∷ conflicts gained)) in
-    let same : length codes ≡ length (conflicts gained) = length-map (conflicts gained) (λ d. code d n) in
+    let few : length (code c n ∷ codes) ≤ 3 ^ n = length-le_from_distinct_below (code c n ∷ codes) (3 ^ n) distinct (codes_below n (c ∷ conflict_clauses gained)) in
+    let same : length codes ≡ length (conflict_clauses gained) = length-map (conflict_clauses gained) (λ d. code d n) in
     omega arith
 
 kept_first : (c : List Literal) (cs : List (List Literal)) (log : List LogLine) → clauses log ≡ c ∷ cs → IsKept c log
@@ -252,14 +254,14 @@ some_choice : (n : ℕ) → 0 < 3 ^ n
 some_choice zero = omega arith
 some_choice (suc n) = omega (arith, pow-suc 3 n, some_choice n)
 
-few_lines : (n : ℕ) (before gained : List LogLine) → HasChoice n before → AreLines before gained → AreUpTo n gained → AllFresh before gained → length (conflicts gained) < 3 ^ n
+few_lines : (n : ℕ) (before gained : List LogLine) → HasChoice n before → AreLines before gained → AreUpTo n gained → AllFresh before gained → length (conflict_clauses gained) < 3 ^ n
 few_lines n before [] known lines up_to fresh = some_choice n
 few_lines n before (line ∷ gained) (inr some) lines up_to fresh =
     few_after n some.0 before (line ∷ gained) some.1 some.2 (lines_choices n before (line ∷ gained) lines up_to) fresh
 few_lines n before (line ∷ gained) (inl none) lines up_to fresh =
     by_kind line.kind refl lines.0.1 (λ known. few_lines n (before ++ line ∷ []) gained known lines.1 up_to.1 fresh.1)
   where
-    by_kind : (kind : LineKind) → line.kind ≡ kind → IsOfKind kind before line → (HasChoice n (before ++ line ∷ []) → length (conflicts gained) < 3 ^ n) → length (option_to_list (learned kind line.lits) ++ conflicts gained) < 3 ^ n
+    by_kind : (kind : LineKind) → line.kind ≡ kind → IsOfKind kind before line → (HasChoice n (before ++ line ∷ []) → length (conflict_clauses gained) < 3 ^ n) → length (option_to_list (learned kind line.lits) ++ conflict_clauses gained) < 3 ^ n
     by_kind Original same k rest =
         rest (inr (line.lits, (k.distinct, in_range n line.lits lines.0.0 up_to.0), kept_original before line same))
     by_kind Conflict same k rest = absurd (none_refuted before (map negated line.lits) line.hints none k.refuted)
@@ -267,23 +269,11 @@ few_lines n before (line ∷ gained) (inl none) lines up_to fresh =
         rest (inl (clauses-append before (line ∷ []) ∙ ap (λ (cs : List (List Literal)). cs ++ clauses (line ∷ [])) none ∙ ap (λ (kind : LineKind). option_to_list (hinted kind line.lits) ++ []) same))
 
 -- Fresh conflict lines are fewer than the choices: a clause from which the first of them follows has a choice too.
-pub few_fresh : (n : ℕ) (before gained : List LogLine) → IsLog (before ++ gained) → AreUpTo n (before ++ gained) → AllFresh before gained → length (conflicts gained) < 3 ^ n
+pub few_fresh : (n : ℕ) (before gained : List LogLine) → IsLog (before ++ gained) → AreUpTo n (before ++ gained) → AllFresh before gained → length (conflict_clauses gained) < 3 ^ n
 few_fresh n before gained log up_to fresh =
-    let old_lines : AreLines [] before = first_lines [] before gained log.lines in
-    few_lines n before gained (by_clauses (clauses before) refl old_lines) (gained_lines [] before gained log.lines) (back before up_to) fresh
+    let old_lines : AreLines [] before = lines_front [] before gained log.lines in
+    few_lines n before gained (by_clauses (clauses before) refl old_lines) (gained_lines [] before gained log.lines) (All-back (λ line. IsUpTo n line.lits) before gained up_to) fresh
   where
-    first_lines : (start before gained : List LogLine) → AreLines start (before ++ gained) → AreLines start before
-    first_lines start [] gained h = tt
-    first_lines start (line ∷ before) gained h = (h.0, first_lines (start ++ line ∷ []) before gained h.1)
-
-    front : (before : List LogLine) → AreUpTo n (before ++ gained) → AreUpTo n before
-    front [] h = tt
-    front (line ∷ before) h = (h.0, front before h.1)
-
-    back : (before : List LogLine) → AreUpTo n (before ++ gained) → AreUpTo n gained
-    back [] h = h
-    back (line ∷ before) h = back before h.1
-
     by_clauses : (cs : List (List Literal)) → clauses before ≡ cs → AreLines [] before → HasChoice n before
     by_clauses [] same lines = inl same
-    by_clauses (c ∷ cs) same lines = inr (c, first_choice n [] before c cs lines (front before up_to) same, kept_first c cs before same)
+    by_clauses (c ∷ cs) same lines = inr (c, first_choice n [] before c cs lines (All-front (λ line. IsUpTo n line.lits) before gained up_to) same, kept_first c cs before same)

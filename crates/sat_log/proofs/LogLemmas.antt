@@ -6,7 +6,7 @@ use Rattle.sat_log.specs.Clause.{AreLiterals, HasDistinctVariables}
 use Rattle.sat_log.specs.Accepted.{Accepts, IsOriginal, IsOfKind, Follows, AreLines, IsLog}
 use Rattle.sat_log.specs.Marked.{Marked, HasRoomFor, HasRoomForAll, KeepsRoom}
 use Rattle.sat_log.specs.Checking.{IsUpTo, AreUpTo, last_of, last_variable}
-use Rattle.sat_log.specs.Kept.{KeepsLog}
+use Rattle.sat_log.specs.Lines.{KeepsLog}
 use Rattle.sat_log.proofs.ListLemmas.{All-front}
 use Rattle.sat_log.proofs.MarkLemmas.{clause_keeps}
 use Rattle.sat_log.specs.declared.line.LineKind.{LineKind}

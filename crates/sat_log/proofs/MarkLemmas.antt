@@ -10,7 +10,6 @@ use Rattle.indexmap.specs.IndexSet.{insert_key}
 use Rattle.sat_log.specs.Literal.{Literal}
 use Rattle.sat_log.specs.Packing.{packed}
 use Rattle.sat_log.specs.Marked.{Marked, is_numbered, place, places, HasPlace, HasRoomFor, KeepsRoom, placed, is_placed, Agrees, IsClear}
-use Rattle.sat_log.specs.Checking.{IsUpTo}
 use Rattle.sat_log.proofs.ListLemmas.{All-append}
 use Rattle.sat_log.proofs.LiteralLemmas.{literal_by_parts, packed_injective}
 
@@ -137,11 +136,6 @@ inserted_size far k = by_test (list_any (eqb k) far)
 pub clause_keeps : (old new : Marked) (c : List Literal) → KeepsRoom old new → HasRoomFor old c → HasRoomFor new c
 clause_keeps old new [] keeps h = tt
 clause_keeps old new (l ∷ c) keeps h = (keeps l.var h.0, clause_keeps old new c keeps h.1)
-
-pub up_to_has_room : (marks : Marked) (c : List Literal) → IsUpTo marks.room c → HasRoomFor marks c
-up_to_has_room marks [] h = tt
-up_to_has_room marks (l ∷ c) h =
-    (near_has_place marks.room marks.far l.var h.0, up_to_has_room marks c h.1)
 
 one_more : (P : Literal → Type 0) (xs : List Literal) (i : ℕ) (x : Literal) → i < length xs → x ≡ get_or xs i x → AllByRecursion P (take i xs) → P x → AllByRecursion P (take (i + 1) xs)
 one_more P xs i x h e all p =

@@ -29,8 +29,8 @@ Refutes log set (id ∷ next ∷ ids) =
     (c : List Literal) × (u : Literal) × (clause_at log id ≡ Some c) × IsUnit set c u ×
     Refutes log (set ++ u ∷ []) (next ∷ ids)
 
--- A line is accepted over the lines before it: its variables are distinct, and its hints refute that
--- all of its literals are false.
+-- A line is accepted over the lines before it: its variables are distinct, and its hints refute
+-- that all of its literals are false.
 pub record Accepts (log : List LogLine) (line : LogLine) : Type 0 where
   pub distinct : HasDistinctVariables line.lits
   pub refuted : Refutes log (map negated line.lits) line.hints

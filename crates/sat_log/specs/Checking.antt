@@ -1,4 +1,5 @@
--- How a line is checked, as functions on lists: the code equals them, and they decide what is accepted.
+-- How a line is checked, as functions on lists: the code equals them, and they decide what is
+-- accepted.
 use Rattle.std.specs.Prelude.{◌≡◌, ◌≤◌, max, ◌&&◌, ◌||◌, ℕ, Bool, true, false, if◌then◌else◌, Option, Some, None, List, [], ◌∷◌, ◌++◌, map}
 use Rattle.std.specs.List.{AllByRecursion}
 use Rattle.sat_log.specs.Literal.{Literal, negated}
@@ -74,18 +75,10 @@ abbrev pub last_variable : List LogLine → ℕ
 last_variable [] = 0
 last_variable (line ∷ log) = max (last_of line.lits) (last_variable log)
 
--- what a look says of the marks: a literal that a clause propagates is unset, and there is room for it
+-- what a look says of the marks: a literal that a clause propagates is unset, and there is room for
+-- it
 abbrev pub LooksWithin : Marked → Look → Type 0
 LooksWithin marks Falsified = Unit {0}
-LooksWithin marks (Propagates u) = HasPlace marks.room marks.far u.var × (is_set marks.set u ≡ false)
+LooksWithin marks (Propagates u) =
+    HasPlace marks.room marks.far u.var × (is_set marks.set u ≡ false)
 LooksWithin marks Unresolved = Unit {0}
-
--- a look at what is left of a clause, after a literal that is unset, if there was one
-abbrev pub look_after : List Literal → Option Literal → List Literal → Look
-look_after set None c = look set c
-look_after set (Some u) c = look_on set u c
-
--- the literal that was found unset is unset, and there is room for it
-abbrev pub IsOpenLiteral : Marked → Option Literal → Type 0
-IsOpenLiteral marks None = Unit {0}
-IsOpenLiteral marks (Some u) = HasPlace marks.room marks.far u.var × (is_set marks.set u ≡ false)

@@ -1,5 +1,5 @@
 -- Clauses, and what they are where some literals are set true.
-use Rattle.std.specs.Prelude.{◌≡◌, ◌≢◌, ◌⊎◌, ℕ, List, [], ◌∷◌, ◌++◌}
+use Rattle.std.specs.Prelude.{◌≡◌, ◌≢◌, ◌⊎◌, List, [], ◌∷◌, ◌++◌}
 use Rattle.std.specs.List.{AllByRecursion}
 use Rattle.sat_log.specs.Literal.{Literal, negated, IsVariable}
 
@@ -34,5 +34,5 @@ IsFalsified set c = AllByRecursion (IsFalse set) c
 -- one of its literals is unset, and all others are false
 abbrev pub IsUnit : List Literal → List Literal → Literal → Type 0
 IsUnit set c u =
-    (front : List Literal) × (back : List Literal) × (c ≡ front ++ u ∷ back) × IsFalsified set front ×
-    IsUnset set u × IsFalsified set back
+    (front : List Literal) × (back : List Literal) × (c ≡ front ++ u ∷ back) ×
+    IsFalsified set front × IsUnset set u × IsFalsified set back

@@ -9,13 +9,13 @@ use Rattle.sat_log.specs.declared.line.LineKind.{LineKind}
 use Rattle.sat_log.specs.declared.line.LineKind.TheVariants.{Original, Conflict, Final}
 use Rattle.sat_log.specs.declared.line.LogLine.{LogLine}
 
--- each literal of the first is one of the second
-abbrev pub IsWithin : List Literal → List Literal → Type 0
-IsWithin c d = AllByRecursion (Among d) c
+-- each literal of the first is one of the second, so that where the first is true the second is
+abbrev pub Subsumes : List Literal → List Literal → Type 0
+Subsumes c d = AllByRecursion (Among d) c
 
 -- no clause before it has all its literals in the line
 abbrev pub IsFresh : List (List Literal) → List Literal → Type 0
-IsFresh before c = AllByRecursion (λ earlier. ¬ IsWithin earlier c) before
+IsFresh before c = AllByRecursion (λ earlier. ¬ Subsumes earlier c) before
 
 -- no literal is set together with its negation
 abbrev pub IsConsistent : List Literal → Type 0
@@ -82,9 +82,10 @@ learned Conflict c = Some c
 learned Final c = None
 
 -- the clauses of the conflict lines
-abbrev pub conflicts : List LogLine → List (List Literal)
-conflicts [] = []
-conflicts (line ∷ lines) = option_to_list (learned line.kind line.lits) ++ conflicts lines
+abbrev pub conflict_clauses : List LogLine → List (List Literal)
+conflict_clauses [] = []
+conflict_clauses (line ∷ lines) =
+    option_to_list (learned line.kind line.lits) ++ conflict_clauses lines
 
 -- a conflict line is fresh; nothing is asked of lines of other kinds
 abbrev pub IsFreshOfKind : LineKind → List LogLine → List Literal → Type 0

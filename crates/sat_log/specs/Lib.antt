@@ -6,4 +6,4 @@ pub mod Clauses
 pub mod Learned
 pub mod Marked
 pub mod Checking
-pub mod Kept
+pub mod Lines

@@ -5,8 +5,8 @@ use Rattle.sat_log.specs.Literal.{Literal}
 use Rattle.sat_log.specs.Packing.{packed}
 use Rattle.sat_log.specs.declared.line.LogLine.{LogLine}
 
--- Which literals are set, in the order in which they were, and for which variables there is room: those
--- up to one, and some that are far from those.
+-- Which literals are set, in the order in which they were, and for which variables there is room:
+-- those up to one, and some that are far from those.
 pub record Marked : Type 0 where
   pub room : ℕ
   pub far : List ℕ
@@ -16,8 +16,8 @@ pub record Marked : Type 0 where
 abbrev pub is_numbered : List Literal → ℕ → Bool
 is_numbered set n = list_any (λ l. packed l == n) set
 
--- The place of a variable: its number, up to the room, and then the far ones in their order. A variable
--- without room would be behind them all.
+-- The place of a variable: its number, up to the room, and then the far ones in their order. A
+-- variable without room would be behind them all.
 abbrev pub place : ℕ → List ℕ → ℕ → ℕ
 place room far v = if nat_lt room v then room + 1 + position_or_len (nat_eq v) far else v
 
@@ -49,12 +49,14 @@ placed room far l = record { var = place room far l.var; negative = l.negative }
 abbrev pub is_placed : ℕ → List ℕ → List Literal → ℕ → Bool
 is_placed room far set n = list_any (λ l. packed (placed room far l) == n) set
 
--- The table has a truth value for each literal that has a place: true at just those of the trail, which
--- has room for all of them.
-pub record Agrees (room : ℕ) (far : List ℕ) (truths : List Bool) (trail : List Literal) (capacity : ℕ) : Type 0 where
+-- The table has a truth value for each literal that has a place: true at just those of the trail,
+-- which has room for all of them.
+pub record Agrees (room : ℕ) (far : List ℕ) (truths : List Bool) (trail : List Literal)
+    (capacity : ℕ) : Type 0 where
   pub size : 2 * places room far ≤ length truths
   pub within : AllByRecursion (λ l. HasPlace room far l.var) trail
-  pub values : (n : ℕ) → n < length truths → slice_index_or truths n false ≡ is_placed room far trail n
+  pub values : (n : ℕ) → n < length truths →
+      slice_index_or truths n false ≡ is_placed room far trail n
   pub count : count_by (λ b. b) truths ≡ length trail
   pub spare : length truths ≤ capacity
 

@@ -5,7 +5,7 @@ ghost use Rattle.sat_log.specs.Literal.{Literal};
 ghost use Rattle.sat_log.specs.Clauses.{Satisfies, clause_value, clauses};
 ghost use Rattle.sat_log.specs.Accepted.{IsLog, Accepts, originals};
 ghost use Rattle.sat_log.specs.Checking.{AreUpTo};
-ghost use Rattle.sat_log.specs.Learned.{IsFresh, IsNeeded, AllFresh, conflicts};
+ghost use Rattle.sat_log.specs.Learned.{IsFresh, IsNeeded, AllFresh, conflict_clauses};
 ghost use Rattle.sat_log.specs.declared.line.LogLine.{LogLine};
 
 /// Where the originals of a log are true, so are its conflict lines.
@@ -27,11 +27,11 @@ pub fn needed_line_is_fresh()
         IsNeeded before c → IsFresh before c }
 {}
 
-/// Fresh conflict lines over `n` variables are fewer than `3 ^ n`: each variable is positive in a line, negative, or absent, of
-/// two lines with the same choices each contains the other, and a clause from which the first line follows has choices of its
-/// own.
+/// Fresh conflict lines over `n` variables are fewer than `3 ^ n`: each variable is positive in a
+/// line, negative, or absent, of two lines with the same choices each contains the other, and a
+/// clause from which the first line follows has choices of its own.
 pub fn fresh_lines_are_few()
     ensures { (n : ℕ) (before gained : List LogLine) →
         IsLog (before ++ gained) → AreUpTo n (before ++ gained) → AllFresh before gained →
-        length (conflicts gained) < 3 ^ n }
+        length (conflict_clauses gained) < 3 ^ n }
 {}

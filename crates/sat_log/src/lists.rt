@@ -91,7 +91,8 @@ impl SLits {
     }
 }
 
-/// Ids of lines of a log, such as the hints of a line: an original has none, so none lie in the value itself.
+/// Ids of lines of a log, such as the hints of a line: an original has none, so none lie in the
+/// value itself.
 #[derive(Debug, Drop)]
 pub struct Ids {
     items: Vec<u64>,

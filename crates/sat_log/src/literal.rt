@@ -4,8 +4,8 @@ ghost use Rattle.sat_log.specs.Packing.{packed};
 
 use std::marker::Model;
 
-/// A literal: a variable from 1 to 9223372036854775807, and whether it is negated. It is kept as one
-/// number, twice the variable and one more if it is negated, as in MiniSat.
+/// A literal: a variable from 1 to 9223372036854775807, and whether it is negated. It is kept as
+/// one number, twice the variable and one more if it is negated, as in MiniSat.
 #[derive(Clone, Copy, Debug, PartialEq, Eq)]
 pub struct SLit {
     code: u64,

@@ -3,7 +3,7 @@ ghost use Rattle.std.specs.Option.{option_copied};
 ghost use Rattle.sat_log.specs.Clause.{HasDistinctVariables};
 ghost use Rattle.sat_log.specs.Accepted.{Accepts, IsOriginal, IsOfKind, IsLog, line_at, clause_at, originals};
 ghost use Rattle.sat_log.specs.Checking.{IsUpTo, AreUpTo, last_variable};
-ghost use Rattle.sat_log.specs.Kept.{original, AreProper};
+ghost use Rattle.sat_log.specs.Lines.{original, AreProper};
 ghost use Rattle.sat_log.specs.declared.line.LineKind.TheVariants.{Original};
 
 use crate::check::{accepts_line, clause_at, is_distinct, last_variable, line_at};
@@ -43,8 +43,9 @@ impl<T: Drop> From<AllocFailed<T>> for AppendFault {
     }
 }
 
-/// Up to which variable a log of so many lines has the marks of a variable at its number. The table of
-/// those marks is thus as long as the log, but for a fixed length, however great the variables are.
+/// Up to which variable a log of so many lines has the marks of a variable at its number. The table
+/// of those marks is thus as long as the log, but for a fixed length, however great the variables
+/// are.
 fn near_limit(lines: usize) -> u64 {
     (lines as u64).saturating_mul(2).saturating_add(1 << 16)
 }
@@ -63,7 +64,7 @@ pub struct Log {
 
 impl Model for Log {
     ghost use Rattle.std.specs.Prelude.{List};
-    ghost use Rattle.sat_log.specs.Kept.{KeepsLog};
+    ghost use Rattle.sat_log.specs.Lines.{KeepsLog};
     ghost use Rattle.sat_log.specs.declared.line.LogLine.{LogLine};
 
     ghost Value = { List LogLine };
@@ -192,13 +193,13 @@ impl Log {
         Ok(self.lines.len() as u64)
     }
 
-    /// Appends a line of any kind if it may come next, and answers its id. An original may where it has a
-    /// literal, no variable twice and no hint, and another line where the log accepts it.
+    /// Appends a line of any kind if it may come next, and answers its id. An original may where it
+    /// has a literal, no variable twice and no hint, and another line where the log accepts it.
     ///
     /// # Errors
     ///
-    /// `NotAccepted` exactly where the line may not come next, and `NoMemory` where memory is refused; the
-    /// log stays as it was.
+    /// `NotAccepted` exactly where the line may not come next, and `NoMemory` where memory is
+    /// refused; the log stays as it was.
     pub fn extend(&mut self, line: LogLine) -> Result<u64, AppendFault>
         ensures accepted { OnOk result (IsOfKind line.kind self.old line) }
         ensures refused { result ≡ Err AppendFault.NotAccepted →

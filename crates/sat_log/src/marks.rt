@@ -19,9 +19,9 @@ pub(crate) enum Look {
     Unresolved,
 }
 
-/// A table of the literals that are set while a line is checked. It has room for the variables from 1
-/// to some last one, whose places are their numbers, and for some others, whose places an index has. So a
-/// great variable costs no more than a small one.
+/// A table of the literals that are set while a line is checked. It has room for the variables from
+/// 1 to some last one, whose places are their numbers, and for some others, whose places an index
+/// has. So a great variable costs no more than a small one.
 #[derive(Debug, Drop)]
 pub struct Marks {
     room: u64,
@@ -87,8 +87,8 @@ impl Marks {
         self.trail.push_reserved(literal);
     }
 
-    /// Makes room for the variables of a clause: for those up to the limit by their numbers, and for each
-    /// other one by itself.
+    /// Makes room for the variables of a clause: for those up to the limit by their numbers, and
+    /// for each other one by itself.
     ///
     /// # Errors
     ///

@@ -12,7 +12,7 @@ use Rattle.sat_watch.proofs.Chains.{after_among}
 use Rattle.sat_trail.specs.Trail.{literals, top, before, places}
 use Rattle.sat_trail.proofs.Trails.{consistent}
 use Rattle.sat_trail.proofs.Levels.{among_earlier}
-use Rattle.sat_trail.proofs.WatchRules.{set_or_not}
+use Rattle.sat_trail.proofs.Literals.{set_or_not}
 use Rattle.sat_trail.proofs.Tables.{place_within}
 use Rattle.sat_trail.specs.declared.trail.Entry.{Entry}
 use Rattle.sat_propagation.specs.Watching.{MayWatch, Backs, KeepsPair, IsPart}

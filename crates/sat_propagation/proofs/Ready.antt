@@ -12,9 +12,9 @@ use Rattle.sat_trail.specs.Trail.{Trailed, literals, top, before, bottom, places
 use Rattle.sat_trail.specs.Units.{AreQuiet}
 use Rattle.sat_trail.specs.declared.trail.Entry.{Entry}
 use Rattle.sat_trail.proofs.Growth.{clause_stays}
-use Rattle.sat_trail.proofs.WatchRules.{backed_before}
-use Rattle.sat_propagation.specs.Watching.{Propagated, line_of, IsUsed, StandsFor, AreStanding, KeepsPair, KeepsRule, IsReady, IsWatchedFor, KeepsLines, Adds, Serves}
-use Rattle.sat_propagation.proofs.Quiet.{backed_next, watched_quiet}
+use Rattle.sat_propagation.specs.declared.propagation.Line.{Line}
+use Rattle.sat_propagation.specs.Watching.{Propagated, no_line, line_of, id_of, IsUsed, StandsFor, AreStanding, KeepsPair, KeepsRule, IsReady, IsWatchedFor, Adds, Serves}
+use Rattle.sat_propagation.proofs.Quiet.{backed_next, backed_before, watched_quiet}
 use Rattle.sat_propagation.proofs.Rules.{grown_rule}
 
 -- The part that was looked at.
@@ -37,7 +37,7 @@ ready_line log t p line h = record { lists = h.lists; standing = stand; within =
     stand : AreStanding (log ++ line ∷ []) p
     stand w u =
         let s = h.standing w u in
-        record { clause = s.clause; named = clause_stays log line (line_of p w) s.clause s.named; stands = s.stands; apart = s.apart }
+        record { clause = s.clause; named = clause_stays log line (id_of p w) s.clause s.named; stands = s.stands; apart = s.apart; whole = s.whole }
 
 -- An entry more.
 
@@ -83,7 +83,7 @@ before_rule p part entries level below keeps r u a b ha hb ne =
       now = k.earlier (level + 1) (omega arith);
     }
 
-pub ready_before : (log : List LogLine) (old new : Trailed) (p : Propagated) (level n : ℕ) → new.variables ≡ old.variables → new.entries ≡ before (level + 1) old.entries → level < top old.entries → n ≡ length new.entries → IsReady log old p → IsReady log new (record { watched = p.watched; ids = p.ids; looked = n })
+pub ready_before : (log : List LogLine) (old new : Trailed) (p : Propagated) (level n : ℕ) → new.variables ≡ old.variables → new.entries ≡ before (level + 1) old.entries → level < top old.entries → n ≡ length new.entries → IsReady log old p → IsReady log new (record { watched = p.watched; lines = p.lines; looked = n })
 ready_before log old new p level n variables same below looked h =
     let back : List Entry = before (level + 1) old.entries in
     let all : length back ≤ n = omega (arith, looked, ap length same) in
@@ -97,20 +97,20 @@ ready_before log old new p level n variables same below looked h =
     }
 
 -- Lists for more variables.
-pub ready_wider : (log : List LogLine) (old new : Trailed) (p q : Propagated) → new.entries ≡ old.entries → places new.variables ≤ length q.watched.lists → q.watched.pairs ≡ p.watched.pairs → q.ids ≡ p.ids → q.looked ≡ p.looked → IsReady log old p → IsReady log new q
-ready_wider log old new p q same lists pairs ids looked h =
+pub ready_wider : (log : List LogLine) (old new : Trailed) (p q : Propagated) → new.entries ≡ old.entries → places new.variables ≤ length q.watched.lists → q.watched.pairs ≡ p.watched.pairs → q.lines ≡ p.lines → q.looked ≡ p.looked → IsReady log old p → IsReady log new q
+ready_wider log old new p q same lists pairs lines looked h =
     record {
       lists = lists;
-      standing = (λ w u. subst (λ (ps : List Pair). StandsFor log (line_of q w) (get_or ps w no_pair)) (sym pairs) (subst (λ (i : ℕ). StandsFor log i (pair_at p.watched w)) (sym (line w)) (h.standing w (used w u))));
+      standing = (λ w u. subst (λ (ps : List Pair). StandsFor log (line_of q w) (get_or ps w no_pair)) (sym pairs) (subst (λ (l : Line). StandsFor log l (pair_at p.watched w)) (sym (line w)) (h.standing w (used w u))));
       within = omega (arith, h.within, looked, ap length same);
       rule = (λ w u. subst (λ (ps : List Pair). KeepsPair (bottom q.looked new.entries) new.entries (get_or ps w no_pair)) (sym pairs) (subst (λ (n : ℕ). KeepsPair (bottom n new.entries) new.entries (pair_at p.watched w)) (sym looked) (subst (λ (es : List Entry). KeepsPair (bottom p.looked es) es (pair_at p.watched w)) (sym same) (h.rule w (used w u)))));
     }
   where
     line : (w : ℕ) → line_of q w ≡ line_of p w
-    line w = ap (λ (xs : List ℕ). get_or xs w 0) ids
+    line w = ap (λ (xs : List Line). get_or xs w no_line) lines
 
     used : (w : ℕ) → IsUsed q w → IsUsed p w
-    used w u = (omega (arith, u.0, ap length pairs), (λ none. u.1 (line w ∙ none)))
+    used w u = (omega (arith, u.0, ap length pairs), (λ none. u.1 (ap (λ (l : Line). l.id) (line w) ∙ none)))
 
 -- A pair more, which watches for no line.
 module _ (old new : Propagated) (a b : Literal) (w : ℕ) (adds : Adds old new a b w) where
@@ -118,11 +118,11 @@ module _ (old new : Propagated) (a b : Literal) (w : ℕ) (adds : Adds old new a
   added_used r u = by_place (cases_eq r w)
     where
       by_place : (r ≡ w) ⊎ (r ≡ w → ⊥) → IsUsed old r
-      by_place (inl same) = absurd (u.1 (ap (line_of new) same ∙ adds.unused))
+      by_place (inl same) = absurd (u.1 (ap (id_of new) same ∙ adds.unused))
       by_place (inr ne) =
           let size : length new.watched.pairs ≡ length old.watched.pairs + 1 = ap length adds.pairs ∙ length_push old.watched.pairs (record { first = a; second = b }) in
           let other : r ≢ length old.watched.pairs = (λ e. ne (e ∙ sym adds.number)) in
-          (omega (arith, u.0, size, other), (λ none. u.1 (adds.lines r ∙ none)))
+          (omega (arith, u.0, size, other), (λ none. u.1 (ap (λ (l : Line). l.id) (adds.lines r) ∙ none)))
 
   added_pair : (r : ℕ) → r < length old.watched.pairs → pair_at new.watched r ≡ pair_at old.watched r
   added_pair r below = ap (λ (ps : List Pair). get_or ps r no_pair) adds.pairs ∙ get_or_append_left old.watched.pairs (record { first = a; second = b } ∷ []) no_pair r below
@@ -133,7 +133,7 @@ module _ (old new : Propagated) (a b : Literal) (w : ℕ) (adds : Adds old new a
         lists = subst (λ (n : ℕ). places t.variables ≤ n) (sym adds.lists) h.lists;
         standing = (λ r u.
             let v = added_used r u in
-            subst (StandsFor log (line_of new r)) (sym (added_pair r v.0)) (subst (λ (i : ℕ). StandsFor log i (pair_at old.watched r)) (sym (adds.lines r)) (h.standing r v)));
+            subst (StandsFor log (line_of new r)) (sym (added_pair r v.0)) (subst (λ (l : Line). StandsFor log l (pair_at old.watched r)) (sym (adds.lines r)) (h.standing r v)));
         within = omega (arith, h.within, adds.looked);
         rule = (λ r u.
             let v = added_used r u in
@@ -145,20 +145,20 @@ module _ (old new : Propagated) (a b : Literal) (w : ℕ) (adds : Adds old new a
       let below = h.used.0 in
       record {
         watcher = h.watcher;
-        used = (omega (arith, below, ap length adds.pairs, length_push old.watched.pairs (record { first = a; second = b })), (λ none. h.used.1 (sym (adds.lines h.watcher) ∙ none)));
-        line = adds.lines h.watcher ∙ h.line;
+        used = (omega (arith, below, ap length adds.pairs, length_push old.watched.pairs (record { first = a; second = b })), (λ none. h.used.1 (sym (ap (λ (l : Line). l.id) (adds.lines h.watcher)) ∙ none)));
+        line = ap (λ (l : Line). l.id) (adds.lines h.watcher) ∙ h.line;
       }
 
 -- A pair that watches for a line.
-module _ (old new : Propagated) (w id : ℕ) (serves : Serves old new w id) where
+module _ (old new : Propagated) (w : ℕ) (line : Line) (serves : Serves old new w line) where
   served_pair : (r : ℕ) → pair_at new.watched r ≡ pair_at old.watched r
   served_pair r = ap (λ (x : Watched). pair_at x r) serves.watched
 
   served_used : (r : ℕ) → r ≢ w → IsUsed new r → IsUsed old r
   served_used r ne u =
-      (omega (arith, u.0, ap (λ (x : Watched). length x.pairs) serves.watched), (λ none. u.1 (serves.others r ne ∙ none)))
+      (omega (arith, u.0, ap (λ (x : Watched). length x.pairs) serves.watched), (λ none. u.1 (ap (λ (l : Line). l.id) (serves.others r ne) ∙ none)))
 
-  pub ready_served : (log : List LogLine) (t : Trailed) → StandsFor log id (pair_at old.watched w) → KeepsPair (bottom old.looked t.entries) t.entries (pair_at old.watched w) → IsReady log t old → IsReady log t new
+  pub ready_served : (log : List LogLine) (t : Trailed) → StandsFor log line (pair_at old.watched w) → KeepsPair (bottom old.looked t.entries) t.entries (pair_at old.watched w) → IsReady log t old → IsReady log t new
   ready_served log t stands keeps h =
       record {
         lists = subst (λ (x : Watched). places t.variables ≤ length x.lists) (sym serves.watched) h.lists;
@@ -168,30 +168,30 @@ module _ (old new : Propagated) (w id : ℕ) (serves : Serves old new w id) wher
       }
     where
       standing : (r : ℕ) → IsUsed new r → (r ≡ w) ⊎ (r ≡ w → ⊥) → StandsFor log (line_of new r) (pair_at new.watched r)
-      standing r u (inl same) = subst (λ (x : ℕ). StandsFor log (line_of new x) (pair_at new.watched x)) (sym same) (subst (StandsFor log (line_of new w)) (sym (served_pair w)) (subst (λ (i : ℕ). StandsFor log i (pair_at old.watched w)) (sym serves.line) stands))
-      standing r u (inr ne) = subst (StandsFor log (line_of new r)) (sym (served_pair r)) (subst (λ (i : ℕ). StandsFor log i (pair_at old.watched r)) (sym (serves.others r ne)) (h.standing r (served_used r ne u)))
+      standing r u (inl same) = subst (λ (x : ℕ). StandsFor log (line_of new x) (pair_at new.watched x)) (sym same) (subst (StandsFor log (line_of new w)) (sym (served_pair w)) (subst (λ (l : Line). StandsFor log l (pair_at old.watched w)) (sym serves.line_is) stands))
+      standing r u (inr ne) = subst (StandsFor log (line_of new r)) (sym (served_pair r)) (subst (λ (l : Line). StandsFor log l (pair_at old.watched r)) (sym (serves.others r ne)) (h.standing r (served_used r ne u)))
 
       rule : (r : ℕ) → IsUsed new r → (r ≡ w) ⊎ (r ≡ w → ⊥) → KeepsPair (bottom old.looked t.entries) t.entries (pair_at old.watched r)
       rule r u (inl same) = subst (λ (x : ℕ). KeepsPair (bottom old.looked t.entries) t.entries (pair_at old.watched x)) (sym same) keeps
       rule r u (inr ne) = h.rule r (served_used r ne u)
 
   -- it watches for the line now
-  pub served_here : w < length old.watched.pairs → id ≢ 0 → IsWatchedFor new id
+  pub served_here : w < length old.watched.pairs → line.id ≢ 0 → IsWatchedFor new line.id
   served_here below some =
       record {
         watcher = w;
-        used = (omega (arith, below, ap (λ (x : Watched). length x.pairs) serves.watched), (λ none. some (sym serves.line ∙ none)));
-        line = serves.line;
+        used = (omega (arith, below, ap (λ (x : Watched). length x.pairs) serves.watched), (λ none. some (sym (ap (λ (l : Line). l.id) serves.line_is) ∙ none)));
+        line = ap (λ (l : Line). l.id) serves.line_is;
       }
 
   -- and one that did before still does, where this one watched for none
-  pub served_watched : (other : ℕ) → line_of old w ≡ 0 → IsWatchedFor old other → IsWatchedFor new other
+  pub served_watched : (other : ℕ) → id_of old w ≡ 0 → IsWatchedFor old other → IsWatchedFor new other
   served_watched other free h =
-      let ne : h.watcher ≢ w = (λ e. h.used.1 (ap (line_of old) e ∙ free)) in
+      let ne : h.watcher ≢ w = (λ e. h.used.1 (ap (id_of old) e ∙ free)) in
       record {
         watcher = h.watcher;
-        used = (omega (arith, h.used.0, ap (λ (x : Watched). length x.pairs) serves.watched), (λ none. h.used.1 (sym (serves.others h.watcher ne) ∙ none)));
-        line = serves.others h.watcher ne ∙ h.line;
+        used = (omega (arith, h.used.0, ap (λ (x : Watched). length x.pairs) serves.watched), (λ none. h.used.1 (sym (ap (λ (l : Line). l.id) (serves.others h.watcher ne)) ∙ none)));
+        line = ap (λ (l : Line). l.id) (serves.others h.watcher ne) ∙ h.line;
       }
 
 -- The trail is looked at again.
@@ -203,8 +203,8 @@ none_looked entries k m = from entries (subst (λ (n : ℕ). Among (literals (dr
     from [] n = n
     from (e ∷ es) n = from es n
 
-pub ready_restarted : (log : List LogLine) (t : Trailed) (p : Propagated) → IsReady log t p → IsReady log t (record { watched = p.watched; ids = p.ids; looked = 0 })
-ready_restarted log t p h =
+pub ready_from_start : (log : List LogLine) (t : Trailed) (p : Propagated) → IsReady log t p → IsReady log t (record { watched = p.watched; lines = p.lines; looked = 0 })
+ready_from_start log t p h =
     record {
       lists = h.lists;
       standing = h.standing;
@@ -214,9 +214,9 @@ ready_restarted log t p h =
 
 -- What is watched.
 
-pub same_watched : (old new : Propagated) → length new.watched.pairs ≡ length old.watched.pairs → new.ids ≡ old.ids → (id : ℕ) → IsWatchedFor old id → IsWatchedFor new id
-same_watched old new pairs ids id h =
-    let line : line_of new h.watcher ≡ line_of old h.watcher = ap (λ (xs : List ℕ). get_or xs h.watcher 0) ids in
+pub same_watched : (old new : Propagated) → length new.watched.pairs ≡ length old.watched.pairs → new.lines ≡ old.lines → (id : ℕ) → IsWatchedFor old id → IsWatchedFor new id
+same_watched old new pairs lines id h =
+    let line : id_of new h.watcher ≡ id_of old h.watcher = ap (λ (xs : List Line). (get_or xs h.watcher no_line).id) lines in
     record {
       watcher = h.watcher;
       used = (omega (arith, h.used.0, pairs), (λ none. h.used.1 (sym line ∙ none)));

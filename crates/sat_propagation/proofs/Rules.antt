@@ -13,14 +13,15 @@ use Rattle.sat_trail.specs.Trail.{literals, top, bottom}
 use Rattle.sat_trail.specs.Units.{AddsImplied}
 use Rattle.sat_trail.proofs.Levels.{among_below}
 use Rattle.sat_trail.specs.declared.trail.Entry.{Entry}
-use Rattle.sat_propagation.specs.Watching.{Propagated, line_of, IsUsed, StandsFor, AreStanding, KeepsPair, KeepsRule, IsPart, AreSettled, MovesAway, KeepsLines}
+use Rattle.sat_propagation.specs.declared.propagation.Line.{Line}
+use Rattle.sat_propagation.specs.Watching.{Propagated, no_line, line_of, id_of, IsUsed, StandsFor, AreStanding, KeepsPair, KeepsRule, IsPart, AreSettled, MovesAway, KeepsLines}
 use Rattle.sat_propagation.proofs.Pairs.{changed_has, changed_apart, changed_keeps, grown_keeps}
 
 module _ (old new : Propagated) (l : Literal) (w : ℕ) (moves : MovesAway old new l w) (below : w < length old.watched.pairs) where
   pub used_before : (r : ℕ) → IsUsed new r → IsUsed old r
   used_before r u =
       let size : length new.watched.pairs ≡ length old.watched.pairs = ap length moves.pairs ∙ length-set old.watched.pairs w (changed (pair_at old.watched w) l moves.to) in
-      (omega (arith, u.0), (λ none. u.1 (ap (λ (ids : List ℕ). get_or ids r 0) moves.ids ∙ none)))
+      (omega (arith, u.0), (λ none. u.1 (ap (λ (xs : List Line). (get_or xs r no_line).id) moves.lines ∙ none)))
 
   pub pair_here : pair_at new.watched w ≡ changed (pair_at old.watched w) l moves.to
   pair_here = ap (λ (ps : List Pair). get_or ps w no_pair) moves.pairs ∙ get_or-set_same old.watched.pairs w (changed (pair_at old.watched w) l moves.to) no_pair below
@@ -38,11 +39,11 @@ module _ (old new : Propagated) (l : Literal) (w : ℕ) (moves : MovesAway old n
             (changed_keeps (pair_at old.watched w) l moves.to apart has part entries d inside false_ open_ (subst (λ (x : ℕ). KeepsPair part entries (pair_at old.watched x)) same (keeps r (used_before r u)))))
         by_place (inr ne) = subst (KeepsPair part entries) (sym (pair_there r ne)) (keeps r (used_before r u))
 
-    pub moved_stands : (log : List LogLine) (c : List Literal) → clause_at log (line_of old w) ≡ Some c → Among c moves.to → ((x : Literal) → HasWatch (pair_at old.watched w) x → x ≢ l → moves.to ≢ x) → AreStanding log old → AreStanding log new
+    pub moved_stands : (log : List LogLine) (c : List Literal) → clause_at log (id_of old w) ≡ Some c → Among c moves.to → ((x : Literal) → HasWatch (pair_at old.watched w) x → moves.to ≢ x) → AreStanding log old → AreStanding log new
     moved_stands log c named stands other all r u = by_place (cases_eq r w)
       where
-        ids : line_of old r ≡ line_of new r
-        ids = ap (λ (xs : List ℕ). get_or xs r 0) (sym moves.ids)
+        lines : line_of old r ≡ line_of new r
+        lines = ap (λ (xs : List Line). get_or xs r no_line) (sym moves.lines)
 
         here : (s : StandsFor log (line_of old w) (pair_at old.watched w)) → StandsFor log (line_of old w) (changed (pair_at old.watched w) l moves.to)
         here s =
@@ -50,7 +51,8 @@ module _ (old new : Propagated) (l : Literal) (w : ℕ) (moves : MovesAway old n
               clause = s.clause;
               named = s.named;
               stands = (λ x m. by_watch x (changed_has (pair_at old.watched w) l moves.to apart has x m));
-              apart = changed_apart (pair_at old.watched w) l moves.to apart has other;
+              apart = changed_apart (pair_at old.watched w) l moves.to apart has (λ x m ne. other x m);
+              whole = (λ all x m. absurd (other moves.to (s.whole all moves.to (subst (λ (d : List Literal). Among d moves.to) same_clause stands)) refl));
             }
           where
             same_clause : c ≡ s.clause
@@ -61,9 +63,9 @@ module _ (old new : Propagated) (l : Literal) (w : ℕ) (moves : MovesAway old n
             by_watch x (inr o) = s.stands x o.0
 
         by_place : (r ≡ w) ⊎ (r ≡ w → ⊥) → StandsFor log (line_of new r) (pair_at new.watched r)
-        by_place (inr ne) = subst (λ (i : ℕ). StandsFor log i (pair_at new.watched r)) ids (subst (StandsFor log (line_of old r)) (sym (pair_there r ne)) (all r (used_before r u)))
+        by_place (inr ne) = subst (λ (i : Line). StandsFor log i (pair_at new.watched r)) lines (subst (StandsFor log (line_of old r)) (sym (pair_there r ne)) (all r (used_before r u)))
         by_place (inl same) =
-            subst (λ (i : ℕ). StandsFor log i (pair_at new.watched r)) ids
+            subst (λ (i : Line). StandsFor log i (pair_at new.watched r)) lines
             (subst (λ (x : ℕ). StandsFor log (line_of old x) (pair_at new.watched x)) (sym same) (subst (StandsFor log (line_of old w)) (sym pair_here) (here (subst (λ (x : ℕ). StandsFor log (line_of old x) (pair_at old.watched x)) same (all r (used_before r u))))))
 
 pub grown_rule : (part entries : List Entry) (e : Entry) (p : Propagated) → e.level ≡ top entries → KeepsRule part entries p → KeepsRule part (e ∷ entries) p
@@ -105,18 +107,18 @@ entry_below entries e i h =
 -- The lines for which pairs watch.
 
 pub lines_same : (p : Propagated) → KeepsLines p p
-lines_same p = record { pairs = refl; ids = refl; lists = refl }
+lines_same p = record { pairs = refl; lines = refl; lists = refl }
 
 pub lines_twice : (old mid new : Propagated) → KeepsLines old mid → KeepsLines mid new → KeepsLines old new
-lines_twice old mid new a b = record { pairs = b.pairs ∙ a.pairs; ids = b.ids ∙ a.ids; lists = b.lists ∙ a.lists }
+lines_twice old mid new a b = record { pairs = b.pairs ∙ a.pairs; lines = b.lines ∙ a.lines; lists = b.lists ∙ a.lists }
 
 pub lines_moved : (old new : Propagated) (l : Literal) (w : ℕ) → MovesAway old new l w → KeepsLines old new
 lines_moved old new l w m =
     record {
       pairs = ap length m.pairs ∙ length-set old.watched.pairs w (changed (pair_at old.watched w) l m.to);
-      ids = m.ids;
+      lines = m.lines;
       lists = m.lists.places;
     }
 
-pub lines_looked : (old new : Propagated) (n : ℕ) → KeepsLines old new → KeepsLines old (record { watched = new.watched; ids = new.ids; looked = n })
-lines_looked old new n k = record { pairs = k.pairs; ids = k.ids; lists = k.lists }
+pub lines_looked : (old new : Propagated) (n : ℕ) → KeepsLines old new → KeepsLines old (record { watched = new.watched; lines = new.lines; looked = n })
+lines_looked old new n k = record { pairs = k.pairs; lines = k.lines; lists = k.lists }

@@ -10,7 +10,8 @@ use Rattle.sat_watch.proofs.Chains.{All-at, is_same, is_other, distinct_without}
 use Rattle.sat_trail.specs.Units.{AddsImplied}
 use Rattle.sat_trail.specs.declared.trail.Entry.{Entry}
 use Rattle.sat_trail.proofs.Lists.{All-map}
-use Rattle.sat_propagation.specs.Watching.{Propagated, IsSettled, AreSettled, MovesAway}
+use Rattle.sat_propagation.specs.declared.propagation.Line.{Line}
+use Rattle.sat_propagation.specs.Watching.{Propagated, no_line, IsSettled, AreSettled, MovesAway}
 use Rattle.sat_propagation.proofs.Rules.{pair_there, in_grown}
 
 -- the last of these, if there is one
@@ -160,7 +161,7 @@ module _ (old new : Propagated) (entries longer : List Entry) (l : Literal) (bef
         stays [] o h = tt
         stays (x ∷ xs) o h = (
           (λ used k watches ne. settled_grown old entries longer l grown x h.0
-              (λ none. used (ap (λ (ids : List ℕ). get_or ids x 0) m.ids ∙ none)) k
+              (λ none. used (ap (λ (xs : List Line). (get_or xs x no_line).id) m.lines ∙ none)) k
               (subst (λ pair. HasWatch pair k) (pair_there old new l w m below x o.0) watches) ne),
           stays xs o.1 h.1,
         )

@@ -1,6 +1,6 @@
 //! Unit propagation over watched literals (Moskewicz and others 2001).
 
-ghost use Rattle.std.specs.Prelude.{◌≡◌, ◌≢◌, ◌+◌, ◌<◌, ◌≤◌, ℕ, List, [], ◌∷◌, Some, length, IfOk, IfSome, IfNone, OnOk, OnErr, IsTrue, ◌↔◌};
+ghost use Rattle.std.specs.Prelude.{◌≡◌, ◌≢◌, ◌+◌, ◌<◌, ◌≤◌, ℕ, true, List, [], ◌∷◌, Some, length, IfOk, IfSome, IfNone, OnOk, OnErr, IsTrue, ◌↔◌};
 ghost use Rattle.std.specs.List.{AllByRecursion};
 ghost use Rattle.sat_log.specs.Literal.{Literal, negated};
 ghost use Rattle.sat_log.specs.Clause.{Among};
@@ -14,7 +14,7 @@ ghost use Rattle.sat_trail.specs.declared.trail.Entry.{Entry};
 ghost use Rattle.sat_propagation.specs.Watching.{MayWatch, AreStanding, KeepsRule, IsReady, KeepsLines, Adds, Serves, IsPart, AreSettled, VisitsTo};
 
 use sat_log::{Log, SLit};
-use sat_trail::{Trail, clause_at};
+use sat_trail::Trail;
 use sat_watch::Watches;
 use std::alloc::{AllocError, Global};
 use std::marker::Model;
@@ -30,12 +30,21 @@ pub(crate) enum Visit {
     Conflict(u64),
 }
 
+/// The line for which two literals watch.
+#[derive(Clone, Copy, Debug)]
+pub struct Line {
+    /// Its id; 0 for none.
+    pub id: u64,
+    /// Whether they are all literals of its clause: then nothing of the log is read.
+    pub binary: bool,
+}
+
 /// The watches of the clauses of a log, and how far the trail was looked at.
 #[derive(Debug, Drop)]
 pub struct Propagation {
     watches: Watches,
-    /// The line for which each watches, by its id; 0 where it watches for none.
-    ids: Vec<u64>,
+    /// The line for which each watches.
+    lines: Vec<Line>,
     /// How many entries of the trail were looked at.
     looked: usize,
 }
@@ -48,11 +57,11 @@ impl Model for Propagation {
 
     ghost view = { λ p. record {
       watched = p.watches;
-      ids = p.ids.items;
+      lines = p.lines.items;
       looked = p.looked;
     } };
 
-    ghost invariant = { λ p. length p.ids.items ≡ length p.watches.pairs };
+    ghost invariant = { λ p. length p.lines.items ≡ length p.watches.pairs };
 }
 
 /// Whether a clause that watches these two may watch this literal in place of one of them.
@@ -81,17 +90,22 @@ fn find(trail: &Trail, clause: &[SLit], one: SLit, other: SLit) -> Option<SLit>
     None
 }
 
-/// The same for the clause of this id.
-fn find_at(log: &Log, trail: &Trail, id: u64, one: SLit, other: SLit) -> Option<SLit>
+/// The same for the clause of this line.
+fn find_at(log: &Log, trail: &Trail, line: Line, one: SLit, other: SLit) -> Option<SLit>
     requires exist { AreUpTo trail.now.variables log.now }
-    ensures stands { (c : List Literal) → clause_at log.now id ≡ Some c →
+    requires whole { (c : List Literal) → clause_at log.now line.id ≡ Some c →
+        line.binary ≡ true → AllByRecursion (λ l. l ≢ one → l ≡ other) c }
+    ensures stands { (c : List Literal) → clause_at log.now line.id ≡ Some c →
         IfSome result (Among c) }
     ensures open_ { IfSome result (MayWatch (literals trail.now.entries) one other) }
-    ensures none { (c : List Literal) → clause_at log.now id ≡ Some c →
+    ensures none { (c : List Literal) → clause_at log.now line.id ≡ Some c →
         IfNone result
         (AllByRecursion (λ l. ¬ MayWatch (literals trail.now.entries) one other l) c) }
 {
-    find(trail, clause_at(log, id)?, one, other)
+    if line.binary {
+        return None;
+    }
+    find(trail, log.clause(line.id)?, one, other)
 }
 
 impl Propagation {
@@ -103,7 +117,7 @@ impl Propagation {
     pub fn new(alloc: Global) -> Result<Propagation, AllocError>
         ensures { IfOk result (λ p. p ≡ record {
           watched = record { pairs = []; lists = [] ∷ [] ∷ [] };
-          ids = [];
+          lines = [];
           looked = 0;
         }) }
     {
@@ -112,7 +126,7 @@ impl Propagation {
         watches.add_place()?;
         Ok(Propagation {
             watches,
-            ids: Vec::new(alloc),
+            lines: Vec::new(alloc),
             looked: 0,
         })
     }
@@ -127,7 +141,7 @@ impl Propagation {
             (length self.new.watched.lists ≡ length self.old.watched.lists + 2) }
         ensures lists { length self.old.watched.lists ≤ length self.new.watched.lists }
         ensures pairs { self.new.watched.pairs ≡ self.old.watched.pairs }
-        ensures ids { self.new.ids ≡ self.old.ids }
+        ensures lines { self.new.lines ≡ self.old.lines }
         ensures looked { self.new.looked ≡ self.old.looked }
     {
         self.watches.add_place()?;
@@ -146,36 +160,40 @@ impl Propagation {
         ensures ok { IfOk result (Adds self.old self.new first second) }
         ensures err { OnErr result (self.new ≡ self.old) }
     {
-        self.ids.reserve(1)?;
+        self.lines.reserve(1)?;
         let watcher = self.watches.add(first, second)?;
-        self.ids.push_reserved(0);
+        self.lines.push_reserved(Line {
+            id: 0,
+            binary: false,
+        });
         Ok(watcher)
     }
 
-    /// Makes two literals that are watched stand for the line of this id.
-    pub fn serve(&mut self, watcher: usize, id: u64)
+    /// Makes two literals that are watched stand for this line.
+    pub fn serve(&mut self, watcher: usize, line: Line)
         requires { watcher < length self.old.watched.pairs }
-        ensures { Serves self.old self.new watcher id }
+        ensures { Serves self.old self.new watcher line }
     {
-        self.ids[watcher] = id;
+        self.lines[watcher] = line;
     }
 
-    /// Forgets what was looked at: the whole trail is looked at again.
-    pub fn restart(&mut self)
+    /// Forgets what was looked at: the trail is looked at from its start again.
+    pub fn look_from_start(&mut self)
         ensures { self.new ≡
-            record { watched = self.old.watched; ids = self.old.ids; looked = 0 } }
+            record { watched = self.old.watched; lines = self.old.lines; looked = 0 } }
     {
         self.looked = 0;
     }
 
-    /// Takes back what is true since a later level than this one opened. What stays was looked at, if any was taken back.
+    /// Takes back what is true since a later level than this one opened. What stays was looked at,
+    /// if any was taken back.
     pub fn backjump(&mut self, trail: &mut Trail, level: u64)
         ensures entries { trail.new.entries ≡ before (level + 1) trail.old.entries }
         ensures variables { trail.new.variables ≡ trail.old.variables }
         ensures ready { (log : List LogLine) → IsReady log trail.old self.old →
             IsReady log trail.new self.new }
         ensures watched { self.new.watched ≡ self.old.watched }
-        ensures ids { self.new.ids ≡ self.old.ids }
+        ensures lines { self.new.lines ≡ self.old.lines }
     {
         if trail.level() > level {
             trail.backjump(level);
@@ -201,7 +219,8 @@ impl Propagation {
         }
     }
 
-    /// Looks at one that watches a literal which became false: right behind `before` among those, or the first of them.
+    /// Looks at one that watches a literal which became false: right behind `before` among those,
+    /// or the first of them.
     fn visit(
         &mut self,
         log: &Log,
@@ -229,11 +248,12 @@ impl Propagation {
         ensures variables { trail.new.variables ≡ trail.old.variables }
     {
         let other = self.other(literal, watcher);
-        let id = self.ids[watcher];
+        let line = self.lines[watcher];
+        let id = line.id;
         if id == 0 || trail.is_true(other) {
             return Visit::Kept;
         }
-        match find_at(log, trail, id, literal, other) {
+        match find_at(log, trail, line, literal, other) {
             Some(to) => {
                 self.watches.move_watch(literal, before, watcher, to);
                 Visit::Moved
@@ -259,7 +279,8 @@ impl Propagation {
         }
     }
 
-    /// Visits all that watch a literal which became false. Answers the id of a clause that is false, if one is.
+    /// Visits all that watch a literal which became false. Answers the id of a clause that is
+    /// false, if one is.
     fn walk(&mut self, log: &Log, trail: &mut Trail, literal: SLit) -> Option<u64>
         requires log { IsLog log.now }
         requires trail { IsTrail log.now trail.old.entries }
@@ -290,8 +311,8 @@ impl Propagation {
         None
     }
 
-    /// Makes true what unit clauses imply, until a clause is false or none is unit. Answers the id of a clause that is
-    /// false.
+    /// Makes true what unit clauses imply, until a clause is false or none is unit. Answers the id
+    /// of a clause that is false.
     pub fn propagate(&mut self, log: &Log, trail: &mut Trail) -> Option<u64>
         requires log { IsLog log.now }
         requires trail { IsTrail log.now trail.old.entries }

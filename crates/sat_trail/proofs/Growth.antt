@@ -7,13 +7,10 @@ use Rattle.sat_log.specs.Literal.{Literal}
 use Rattle.sat_log.specs.Clause.{IsUnset}
 use Rattle.sat_log.specs.Accepted.{clause_at, hinted}
 use Rattle.sat_log.specs.declared.line.LogLine.{LogLine}
-use Rattle.sat_log.specs.Checking.{AreUpTo}
 use Rattle.sat_log.proofs.ListLemmas.{All-append}
-use Rattle.sat_log.proofs.LiteralLemmas.{All-among}
 use Rattle.sat_trail.specs.Trail.{literals, top}
 use Rattle.sat_trail.specs.Units.{IsReason, IsTrail, AddsImplied, HasCause}
 use Rattle.sat_trail.proofs.Literals.{unset_apart}
-use Rattle.sat_trail.proofs.Logs.{named_up_to}
 use Rattle.sat_trail.specs.declared.trail.Entry.{Entry}
 use Rattle.std.specs.Option.{option_and_then}
 

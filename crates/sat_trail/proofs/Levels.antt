@@ -120,6 +120,20 @@ before_before low high (e ∷ entries) h = by_level (cases_lt e.level high) (bef
     by_level (inr k) rest =
         ap (λ (b : Bool). before low (cond b (e ∷ entries) (before high entries))) (le-ltb e.level high k) ∙ rest ∙ sym (ap (λ (b : Bool). cond b (e ∷ entries) (before low entries)) (le-ltb e.level low (omega arith)))
 
+-- and of those before a level that are before a higher one, all
+pub before_higher : (n m : ℕ) (entries : List Entry) → m ≤ n → before n (before m entries) ≡ before m entries
+before_higher n m [] h = refl
+before_higher n m (e ∷ entries) h = by_level (cases_lt e.level m) (before_higher n m entries h)
+  where
+    by_level : (e.level < m) ⊎ (m ≤ e.level) → before n (before m entries) ≡ before m entries → before n (before m (e ∷ entries)) ≡ before m (e ∷ entries)
+    by_level (inl below) rest =
+        ap (λ (b : Bool). before n (cond b (e ∷ entries) (before m entries))) (lt-ltb e.level m below)
+        ∙ ap (λ (b : Bool). cond b (e ∷ entries) (before n entries)) (lt-ltb e.level n (omega arith))
+        ∙ sym (ap (λ (b : Bool). cond b (e ∷ entries) (before m entries)) (lt-ltb e.level m below))
+    by_level (inr above) rest =
+        ap (λ (b : Bool). before n (cond b (e ∷ entries) (before m entries))) (le-ltb e.level m above) ∙ rest
+        ∙ sym (ap (λ (b : Bool). cond b (e ∷ entries) (before m entries)) (le-ltb e.level m above))
+
 pub top_lower : (level : ℕ) (entries : List Entry) → AllByRecursion (λ f. f.level < level + 1) entries → top entries ≤ level
 top_lower level [] h = omega arith
 top_lower level (e ∷ entries) h =

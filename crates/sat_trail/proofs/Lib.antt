@@ -5,4 +5,3 @@ pub mod Trails
 pub mod Logs
 pub mod Levels
 pub mod Growth
-pub mod WatchRules

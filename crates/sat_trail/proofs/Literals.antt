@@ -1,8 +1,10 @@
 -- Literals whose variables are those of no literal that is set.
-use Rattle.std.proofs.Common.{◌≡◌, ◌≢◌, ◌⊎◌, inl, inr, List, [], ◌∷◌, length, ap, ℕ, ◌<◌, zero, suc, get_or, sym, arith}
+use Rattle.std.proofs.Common.{◌≡◌, ◌≢◌, ◌∙◌, Bool, true, false, refl, ◌⊎◌, inl, inr, List, [], ◌∷◌, length, ap, ℕ, ◌<◌, zero, suc, get_or, sym, arith}
 use Rattle.std.specs.List.{AllByRecursion}
 use Rattle.sat_log.specs.Literal.{Literal, negated}
 use Rattle.sat_log.specs.Clause.{Among, IsUnset}
+use Rattle.sat_log.specs.Checking.{is_set}
+use Rattle.sat_log.proofs.Decided.{among_from_set, set_from_among}
 use Rattle.sat_log.proofs.LiteralLemmas.{same_variable}
 
 -- an unset literal's variable is that of no literal that is set
@@ -26,3 +28,11 @@ pub stands_at : (c : List Literal) (i : ℕ) (x : Literal) → i < length c → 
 stands_at [] i x inside here = absurd (omega arith)
 stands_at (y ∷ c) zero x inside here = inl (sym here)
 stands_at (y ∷ c) (suc i) x inside here = inr (stands_at c i x (omega arith) here)
+
+-- a literal is set, or it isn't
+pub set_or_not : (set : List Literal) (l : Literal) → Among set l ⊎ (¬ Among set l)
+set_or_not set l = by (is_set set l) refl
+  where
+    by : (b : Bool) → is_set set l ≡ b → Among set l ⊎ (¬ Among set l)
+    by true e = inl (among_from_set set l e)
+    by false e = inr (λ m. let same : true ≡ false = sym (set_from_among set l m) ∙ e in absurd cc)

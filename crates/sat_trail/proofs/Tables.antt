@@ -7,7 +7,7 @@ use Rattle.std.proofs.lemmas.List.{get_or_past, get_or_append_left, length-map, 
 use Rattle.std.proofs.lemmas.Map.Steps.{length-le_from_distinct_below}
 use Rattle.sat_log.specs.Literal.{Literal}
 use Rattle.sat_log.specs.Packing.{packed}
-use Rattle.sat_log.specs.Clause.{Among, IsUnset, HasDistinctVariables}
+use Rattle.sat_log.specs.Clause.{IsUnset, HasDistinctVariables}
 use Rattle.sat_log.specs.Marked.{is_numbered}
 use Rattle.sat_log.proofs.Decided.{among_from_set}
 use Rattle.sat_trail.specs.Trail.{entry_of, literals, places, HasPositions, KeepsTrail}

@@ -2,7 +2,7 @@
 use Rattle.std.proofs.Common.{◌≡◌, ◌≢◌, ◌↔◌, ℕ, zero, suc, ◌+◌, ◌-◌, ◌<◌, ◌≤◌, Bool, true, false, not, cond, inl, inr, List, [], ◌∷◌, ◌++◌, length, map, reverse, take, drop, get_or, refl, ap, sym, subst, ◌∙◌, arith}
 use Rattle.std.specs.Prelude.{Option, None}
 use Rattle.std.specs.List.{AllByRecursion}
-use Rattle.std.proofs.lemmas.Bool.{lt-ltb, le-ltb, false≢true, false_from_ne_true}
+use Rattle.std.proofs.lemmas.Bool.{lt-ltb, false≢true, false_from_ne_true}
 use Rattle.std.proofs.lemmas.List.{reverse-append, length-reverse, length-map, length-drop, take-append-drop, map-append, drop_at, take_more, get_or-reverse, get_or_append_left}
 use Rattle.sat_log.specs.Literal.{Literal, negated}
 use Rattle.sat_log.specs.Clause.{Among, HasDistinctVariables}
@@ -61,20 +61,6 @@ pub before_all : (level : ℕ) (entries : List Entry) → top entries ≤ level 
 before_all level [] h = refl
 before_all level (e ∷ entries) h =
     ap (λ (b : Bool). cond b (e ∷ entries) (before (level + 1) entries)) (lt-ltb e.level (level + 1) (omega arith))
-
-before_later : (level : ℕ) (e : Entry) (entries : List Entry) → level < e.level → before (level + 1) (e ∷ entries) ≡ before (level + 1) entries
-before_later level e entries h =
-    ap (λ (b : Bool). cond b (e ∷ entries) (before (level + 1) entries)) (le-ltb e.level (level + 1) (omega arith))
-
--- An entry of a later level is taken back.
-pub before_pop : (level : ℕ) (old new : List Entry) → level < top old → ((e : Entry) (es : List Entry) → old ≡ e ∷ es → new ≡ es) → before (level + 1) new ≡ before (level + 1) old
-before_pop level [] new h popped = absurd (omega arith)
-before_pop level (e ∷ old) new h popped =
-    ap (before (level + 1)) (popped e old refl) ∙ sym (before_later level e old h)
-
-pub pop_shortens : (level : ℕ) (old new : List Entry) → level < top old → ((e : Entry) (es : List Entry) → old ≡ e ∷ es → new ≡ es) → length new < length old
-pop_shortens level [] new h popped = absurd (omega arith)
-pop_shortens level (e ∷ old) new h popped = omega (arith, ap length (popped e old refl))
 
 -- One variable more.
 

@@ -1,4 +1,3 @@
 pub mod Assignment
 pub mod Trail
 pub mod Units
-pub mod WatchRule

@@ -53,10 +53,11 @@ HasPositions positions [] = Unit {0}
 HasPositions positions (l ∷ true_) =
     (slice_index_or positions l.var 0 ≡ length true_) × HasPositions positions true_
 
--- The tables fit the literals that are true, of which the latest comes first: a truth value for each literal, and
--- a level, a reason and a position for each variable.
+-- The tables fit the literals that are true, of which the latest comes first: a truth value for
+-- each literal, and a level, a reason and a position for each variable.
 pub record KeepsTrail (variables : ℕ) (truths : List Bool) (levels : List ℕ)
-    (reasons : List (Option ℕ)) (positions : List ℕ) (true_ : List Literal) (capacity : ℕ) : Type 0 where
+    (reasons : List (Option ℕ)) (positions : List ℕ) (true_ : List Literal)
+    (capacity : ℕ) : Type 0 where
   pub truths_size : length truths ≡ places variables
   pub levels_size : length levels ≡ variables + 1
   pub reasons_size : length reasons ≡ variables + 1
@@ -69,4 +70,5 @@ pub record KeepsTrail (variables : ℕ) (truths : List Bool) (levels : List ℕ)
 
 -- each variable up to the last is true or false
 abbrev pub AreAllSet : ℕ → List Literal → Type 0
-AreAllSet variables set = (l : Literal) → 1 ≤ l.var → l.var ≤ variables → Among set l ⊎ Among set (negated l)
+AreAllSet variables set =
+    (l : Literal) → 1 ≤ l.var → l.var ≤ variables → Among set l ⊎ Among set (negated l)

@@ -30,7 +30,8 @@ pub record IsConflict (log : List LogLine) (set : List Literal) (id : ℕ) : Typ
 -- A decision opens the next level; what is implied belongs to the open one.
 abbrev pub HasCause : List LogLine → List Entry → Literal → ℕ → Option ℕ → Type 0
 HasCause log entries l level None = level ≡ top entries + 1
-HasCause log entries l level (Some id) = (level ≡ top entries) × IsReason log (literals entries) id l
+HasCause log entries l level (Some id) =
+    (level ≡ top entries) × IsReason log (literals entries) id l
 
 -- the entry may come after these: its variable is new, and it is a decision or implied
 pub record MayFollow (log : List LogLine) (entries : List Entry) (e : Entry) : Type 0 where
@@ -55,11 +56,12 @@ IsQuiet set c = IsTrueUnder set c ⊎ HasTwoUnset set c
 abbrev pub AreQuiet : List Literal → List (List Literal) → Type 0
 AreQuiet set cs = AllByRecursion (IsQuiet set) cs
 
--- No unit is missed: in the trail as it stood when each open level opened, each clause of the log was true or had
--- two unset literals, also those that were learned since.
+-- No unit is missed: in the trail as it stood when each open level opened, each clause of the log
+-- was true or had two unset literals, also those that were learned since.
 abbrev pub MissesNoUnit : List LogLine → List Entry → Type 0
 MissesNoUnit log entries =
-    (level : ℕ) → 1 ≤ level → level ≤ top entries → AreQuiet (literals (before level entries)) (clauses log)
+    (level : ℕ) → 1 ≤ level → level ≤ top entries →
+    AreQuiet (literals (before level entries)) (clauses log)
 
 -- each decision is one of these literals
 abbrev pub AreDecided : List Literal → List Entry → Type 0

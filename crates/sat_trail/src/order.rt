@@ -1,13 +1,16 @@
-//! The order in which variables are decided: those of late conflicts come first (Biere and Fröhlich 2015).
+//! The order in which variables are decided: those of late conflicts come first (Biere and Fröhlich
+//! 2015).
 //!
-//! It only advises. Whoever asks it looks whether the variable has a value, and no contract says which one comes.
+//! It only advises. Whoever asks it looks whether the variable has a value, and no contract says
+//! which one comes.
 
 ghost use Rattle.std.specs.Prelude.{◌≡◌};
 
 use sat_log::SLit;
 use std::alloc::{AllocError, Global};
 
-/// Where moves begin to count. Variables that never moved have lower numbers, the first one the greatest of these.
+/// Where moves begin to count. Variables that never moved have lower numbers, the first one the
+/// greatest of these.
 const FIRST_MOVE: u64 = 1 << 62;
 
 /// A variable's place among the others, and its last value.
@@ -114,7 +117,8 @@ impl Order {
         }
     }
 
-    /// Makes these variables the newest, in the order in which they stand among each other. All of them have values.
+    /// Makes these variables the newest, in the order in which they stand among each other. All of
+    /// them have values.
     pub(crate) fn prefer(&mut self, variables: &[u64]) {
         self.met.clear();
         for &var in variables {

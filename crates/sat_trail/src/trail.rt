@@ -1,5 +1,5 @@
-//! The trail of literals that are true, with a truth value for each literal, and a level and a reason for each
-//! variable.
+//! The trail of literals that are true, with a truth value for each literal, and a level and a
+//! reason for each variable.
 
 ghost use Rattle.std.specs.Prelude.{◌≡◌, ◌+◌, ◌≤◌, ◌<◌, ◌^◌, ◌∷◌, ◌↔◌, [], length, None, Some, IsTrue, IfOk, IfSome, IfNone, OnOk, OnErr};
 ghost use Rattle.std.specs.List.{AllByRecursion};
@@ -23,7 +23,8 @@ pub struct Entry {
     pub reason: Option<u64>,
 }
 
-/// What is true, in the order in which it became so. All room that it needs is there once a variable is.
+/// What is true, in the order in which it became so. All room that it needs is there once a
+/// variable is.
 #[derive(Debug, Drop)]
 pub struct Trail {
     variables: u64,
@@ -170,8 +171,9 @@ impl Trail {
         None
     }
 
-    /// A literal that is neither true nor false: what its variable was last, or the negative one, of the variable that was
-    /// preferred last. Only where the order knows none all variables are looked at.
+    /// A literal that is neither true nor false: what its variable was last, or the negative one,
+    /// of the variable that was preferred last. Only where the order knows none all variables are
+    /// looked at.
     pub fn unset(&mut self) -> Option<SLit>
         ensures exists { IfSome result (λ l. l.var ≤ self.old.variables) }
         ensures unset { IfSome result (IsUnset (literals self.old.entries)) }
@@ -184,14 +186,14 @@ impl Trail {
         }
     }
 
-    /// Prefers these variables, of which each has a value, from now on.
+    /// Prefers these variables from now on.
     pub fn prefer(&mut self, variables: &[u64])
         ensures { self.new ≡ self.old }
     {
         self.order.prefer(variables);
     }
 
-    /// The value of each variable: that of an unset one is false.
+    /// A value for each variable: what is true is so under them.
     ///
     /// # Errors
     ///

@@ -1,5 +1,5 @@
 -- What a record says after one of its links or watches has changed.
-use Rattle.std.proofs.Common.{◌≡◌, ◌≢◌, ◌<◌, ℕ, cond, ◌⊎◌, inl, inr, refl, ap, sym, ◌∙◌, ⊎_elim}
+use Rattle.std.proofs.Common.{◌≡◌, ◌≢◌, ◌<◌, ℕ, cond, ◌⊎◌, inl, inr, refl, sym, ◌∙◌, ⊎_elim}
 use Rattle.std.specs.Prelude.{Option}
 use Rattle.sat_log.specs.Packing.{packed}
 use Rattle.sat_watch.specs.Threads.{link, relinked, exchanged, pair_of, WatchesAt, IsRecord}

@@ -46,14 +46,16 @@ chain next (suc n) (Some c) = c ∷ chain next n (next c)
 -- the lists of the literals from this place on
 abbrev pub lists_from : ℕ → List Record → List (Option ℕ) → List (List ℕ)
 lists_from p records [] = []
-lists_from p records (head ∷ heads) = chain (links records p) (length records) head ∷ lists_from (p + 1) records heads
+lists_from p records (head ∷ heads) =
+    chain (links records p) (length records) head ∷ lists_from (p + 1) records heads
 
 abbrev pub pair_of : Record → Pair
 pair_of r = record { first = r.first.literal; second = r.second.literal }
 
 -- what contracts see
 abbrev pub watched_in : List (Option ℕ) → List Record → Watched
-watched_in heads records = record { pairs = map pair_of records; lists = lists_from 0 records heads }
+watched_in heads records =
+    record { pairs = map pair_of records; lists = lists_from 0 records heads }
 
 -- the links lead from the start through these clauses to the end
 abbrev pub IsChain : (ℕ → Option ℕ) → Option ℕ → List ℕ → Type 0
@@ -65,7 +67,8 @@ abbrev pub WatchesAt : ℕ → Record → Type 0
 WatchesAt p r = (packed r.first.literal ≡ p) ⊎ (packed r.second.literal ≡ p)
 
 -- The links of the literal at this place lead through exactly the clauses that watch it, each once.
-pub record IsThread (records : List Record) (p : ℕ) (start : Option ℕ) (clauses : List ℕ) : Type 0 where
+pub record IsThread (records : List Record) (p : ℕ) (start : Option ℕ)
+    (clauses : List ℕ) : Type 0 where
   pub leads : IsChain (links records p) start clauses
   pub each : (c : ℕ) → c < length records → WatchesAt p (record_at records c) → IsAmong clauses c
   pub only : AllByRecursion (λ c. (c < length records) × WatchesAt p (record_at records c)) clauses
@@ -79,5 +82,6 @@ pub record IsRecord (places : ℕ) (r : Record) : Type 0 where
 
 -- so does each record, and there is a thread for each literal
 pub record KeepsWatches (heads : List (Option ℕ)) (records : List Record) : Type 0 where
-  pub threads : (p : ℕ) → p < length heads → (clauses : List ℕ) × IsThread records p (slice_index_or heads p None) clauses
+  pub threads : (p : ℕ) → p < length heads →
+      (clauses : List ℕ) × IsThread records p (slice_index_or heads p None) clauses
   pub records_are : (c : ℕ) → c < length records → IsRecord (length heads) (record_at records c)

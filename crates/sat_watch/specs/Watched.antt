@@ -9,7 +9,8 @@ pub record Pair : Type 0 where
   pub first : Literal
   pub second : Literal
 
--- the two of each clause, by its number, and for each literal, by its place, the clauses that watch it
+-- the two of each clause, by its number, and for each literal, by its place, the clauses that watch
+-- it
 pub record Watched : Type 0 where
   pub pairs : List Pair
   pub lists : List (List ℕ)
@@ -24,7 +25,10 @@ watchers w l = slice_index_or w.lists (packed l) []
 
 -- what stands for the pair of a clause that there is not
 abbrev pub no_pair : Pair
-no_pair = record { first = record { var = 1; negative = false }; second = record { var = 1; negative = false } }
+no_pair = record {
+  first = record { var = 1; negative = false };
+  second = record { var = 1; negative = false };
+}
 
 -- the two literals of the clause of this number
 abbrev pub pair_at : Watched → ℕ → Pair
@@ -93,7 +97,8 @@ pub record Joins (old new : Watched) (a b : Literal) (c : ℕ) : Type 0 where
   pub others : (l : Literal) → HasPlace old l → l ≢ a → l ≢ b → watchers new l ≡ watchers old l
   pub places : length new.lists ≡ length old.lists
 
--- A clause left the list of one literal and came in front of that of another. The lists of others are as they were.
+-- A clause left the list of one literal and came in front of that of another. The lists of others
+-- are as they were.
 pub record Moves (old new : Watched) (from to : Literal) (c : ℕ) : Type 0 where
   pub left : watchers new from ≡ without c (watchers old from)
   pub joined : watchers new to ≡ c ∷ watchers old to

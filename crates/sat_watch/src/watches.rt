@@ -51,8 +51,8 @@ impl Watches {
         Ok(())
     }
 
-    /// Adds a clause that watches these two literals, as the first one of their lists, and answers its number: they count
-    /// from 0.
+    /// Adds a clause that watches these two literals, as the first one of their lists, and answers
+    /// its number: they count from 0.
     ///
     /// # Errors
     ///
@@ -155,8 +155,9 @@ impl Watches {
         self.heads[to.index()] = Some(clause);
     }
 
-    /// Makes a clause watch another literal in place of one. It stands right behind the clause `before` among those that watch
-    /// the old literal, or is the first of them, and is the first of those that watch the new one.
+    /// Makes a clause watch another literal in place of one. It stands right behind the clause
+    /// `before` among those that watch the old literal, or is the first of them, and is the first
+    /// of those that watch the new one.
     pub fn move_watch(&mut self, literal: SLit, before: Option<usize>, clause: usize, to: SLit)
         requires place { HasPlace self.old literal }
         requires to { HasPlace self.old to }

@@ -1,6 +1,6 @@
-ghost use Rattle.std.specs.Prelude.{◌≡◌, Bool, ◌||◌, List, IfOk, if◌then◌else◌};
+ghost use Rattle.std.specs.Prelude.{◌≡◌, ◌||◌, IfOk, if◌then◌else◌};
 ghost use Rattle.gates.specs.Nodes.{Grows, AddsConjunctions, Belongs};
-ghost use Rattle.gates.specs.Valuation.{value_of, IsValuation};
+ghost use Rattle.gates.specs.Valuation.{value_of, InAll};
 ghost use Rattle.word_bits.specs.Number.{xor, carry};
 
 use gates::{Gates, Lit, lit_not};
@@ -11,7 +11,8 @@ use std::alloc::AllocError;
 pub(crate) fn or(g: &mut Gates, a: Lit, b: Lit) -> Result<Lit, AllocError>
     requires first { Belongs g.old a }
     requires second { Belongs g.old b }
-    ensures meaning { IfOk result (λ l. (values : List Bool) → IsValuation g.new values → value_of values l ≡ (value_of values a || value_of values b)) }
+    ensures meaning { IfOk result (λ l. InAll g.new (λ values.
+        value_of values l ≡ (value_of values a || value_of values b))) }
     ensures belongs { IfOk result (Belongs g.new) }
     ensures grows { Grows g.old g.new }
     ensures conjunctions { AddsConjunctions g.old g.new }
@@ -25,7 +26,8 @@ pub(crate) fn or(g: &mut Gates, a: Lit, b: Lit) -> Result<Lit, AllocError>
 pub(crate) fn differ(g: &mut Gates, a: Lit, b: Lit) -> Result<Lit, AllocError>
     requires first { Belongs g.old a }
     requires second { Belongs g.old b }
-    ensures meaning { IfOk result (λ l. (values : List Bool) → IsValuation g.new values → value_of values l ≡ xor (value_of values a) (value_of values b)) }
+    ensures meaning { IfOk result (λ l. InAll g.new (λ values.
+        value_of values l ≡ xor (value_of values a) (value_of values b))) }
     ensures belongs { IfOk result (Belongs g.new) }
     ensures grows { Grows g.old g.new }
     ensures conjunctions { AddsConjunctions g.old g.new }
@@ -36,13 +38,15 @@ pub(crate) fn differ(g: &mut Gates, a: Lit, b: Lit) -> Result<Lit, AllocError>
     Ok(differ)
 }
 
-/// The carry of the sum of three bits: two gates beside those of `differ`, of which one is that of the sum.
+/// The carry of the sum of three bits: two gates beside those of `differ`, of which one is that of
+/// the sum.
 #[tactic(auto, using(crate::proofs::Circuits::circuits))]
 pub(crate) fn carry_of(g: &mut Gates, a: Lit, b: Lit, c: Lit) -> Result<Lit, AllocError>
     requires first { Belongs g.old a }
     requires second { Belongs g.old b }
     requires third { Belongs g.old c }
-    ensures meaning { IfOk result (λ l. (values : List Bool) → IsValuation g.new values → value_of values l ≡ carry (value_of values a) (value_of values b) (value_of values c)) }
+    ensures meaning { IfOk result (λ l. InAll g.new (λ values.
+        value_of values l ≡ carry (value_of values a) (value_of values b) (value_of values c))) }
     ensures belongs { IfOk result (Belongs g.new) }
     ensures grows { Grows g.old g.new }
     ensures conjunctions { AddsConjunctions g.old g.new }
@@ -60,7 +64,9 @@ pub(crate) fn sum_of(g: &mut Gates, a: Lit, b: Lit, c: Lit) -> Result<Lit, Alloc
     requires first { Belongs g.old a }
     requires second { Belongs g.old b }
     requires third { Belongs g.old c }
-    ensures meaning { IfOk result (λ l. (values : List Bool) → IsValuation g.new values → value_of values l ≡ xor (xor (value_of values a) (value_of values b)) (value_of values c)) }
+    ensures meaning { IfOk result (λ l. InAll g.new (λ values.
+        value_of values l ≡
+        xor (xor (value_of values a) (value_of values b)) (value_of values c))) }
     ensures belongs { IfOk result (Belongs g.new) }
     ensures grows { Grows g.old g.new }
     ensures conjunctions { AddsConjunctions g.old g.new }
@@ -76,7 +82,9 @@ pub(crate) fn choose(g: &mut Gates, c: Lit, a: Lit, b: Lit) -> Result<Lit, Alloc
     requires test { Belongs g.old c }
     requires first { Belongs g.old a }
     requires second { Belongs g.old b }
-    ensures meaning { IfOk result (λ l. (values : List Bool) → IsValuation g.new values → value_of values l ≡ (if value_of values c then value_of values a else value_of values b)) }
+    ensures meaning { IfOk result (λ l. InAll g.new (λ values.
+        value_of values l ≡
+        (if value_of values c then value_of values a else value_of values b))) }
     ensures belongs { IfOk result (Belongs g.new) }
     ensures grows { Grows g.old g.new }
     ensures conjunctions { AddsConjunctions g.old g.new }

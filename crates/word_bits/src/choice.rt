@@ -1,8 +1,8 @@
 #![tactic(auto, using(crate::proofs::Circuits::circuits, crate::proofs::Circuits::belongs))]
 
-ghost use Rattle.std.specs.Prelude.{◌≡◌, Bool, List, length, IfOk, if◌then◌else◌};
+ghost use Rattle.std.specs.Prelude.{◌≡◌, length, IfOk, if◌then◌else◌};
 ghost use Rattle.gates.specs.Nodes.{Grows, AddsConjunctions, Belongs, AllBelong};
-ghost use Rattle.gates.specs.Valuation.{value_of, values_of, IsValuation};
+ghost use Rattle.gates.specs.Valuation.{value_of, values_of, InAll};
 ghost use Rattle.word_bits.specs.Words.{unsigned};
 
 use crate::bit::choose;
@@ -15,8 +15,12 @@ pub fn mux(alloc: Global, g: &mut Gates, c: Lit, a: &Lits, b: &Lits) -> Result<L
     requires test { Belongs g.old c }
     requires first { AllBelong g.old a.now }
     requires second { AllBelong g.old b.now }
-    ensures bits { IfOk result (λ r. (values : List Bool) → IsValuation g.new values → values_of values r ≡ (if value_of values c then values_of values a.now else values_of values b.now)) }
-    ensures number { IfOk result (λ r. (values : List Bool) → IsValuation g.new values → unsigned values r ≡ (if value_of values c then unsigned values a.now else unsigned values b.now)) }
+    ensures bits { IfOk result (λ r. InAll g.new (λ values.
+        values_of values r ≡
+        (if value_of values c then values_of values a.now else values_of values b.now))) }
+    ensures number { IfOk result (λ r. InAll g.new (λ values.
+        unsigned values r ≡
+        (if value_of values c then unsigned values a.now else unsigned values b.now))) }
     ensures width { IfOk result (λ r. length r ≡ length a.now) }
     ensures belongs { IfOk result (AllBelong g.new) }
     ensures grows { Grows g.old g.new }

@@ -1,9 +1,9 @@
 #![tactic(auto, using(crate::proofs::Circuits::circuits, crate::proofs::Circuits::belongs))]
 
-ghost use Rattle.std.specs.Prelude.{◌≡◌, ◌+◌, ◌-◌, ◌^◌, ◌<◌, ◌≤◌, ◌==◌, Bool, List, length, IfOk, nat_lt, nat_le, int_lt, [], ◌∷◌, ◌++◌, take, max};
+ghost use Rattle.std.specs.Prelude.{◌≡◌, ◌+◌, ◌-◌, ◌^◌, ◌<◌, ◌≤◌, ◌==◌, length, IfOk, nat_lt, nat_le, int_lt, [], ◌∷◌, ◌++◌, take, max};
 ghost use Rattle.gates.specs.Literal.{span};
 ghost use Rattle.gates.specs.Nodes.{Grows, AddsConjunctions, Belongs, AllBelong};
-ghost use Rattle.gates.specs.Valuation.{value_of, IsValuation};
+ghost use Rattle.gates.specs.Valuation.{value_of, InAll};
 ghost use Rattle.word_bits.specs.Number.{digit};
 ghost use Rattle.word_bits.specs.Words.{unsigned, signed};
 
@@ -12,14 +12,17 @@ use crate::vector::{front, inverted};
 use gates::{Gates, Lit, Lits, lit_not};
 use std::alloc::{AllocError, Global};
 
-/// The carry out of the sum of two vectors and a carry: five gates a bit, which the sum itself has too.
+/// The carry out of the sum of two vectors and a carry: five gates a bit, which the sum itself has
+/// too.
 pub(crate) fn carry_out(g: &mut Gates, a: &Lits, b: &Lits, carry: Lit) -> Result<Lit, AllocError>
     requires widths { length a.now ≡ length b.now }
     requires first { AllBelong g.old a.now }
     requires second { AllBelong g.old b.now }
     requires third { Belongs g.old carry }
-    ensures meaning { IfOk result (λ l. (values : List Bool) → IsValuation g.new values →
-        value_of values l ≡ nat_le (2 ^ length a.now) (unsigned values a.now + unsigned values b.now + digit (value_of values carry))) }
+    ensures meaning { IfOk result (λ l. InAll g.new (λ values.
+        value_of values l ≡
+        nat_le (2 ^ length a.now)
+        (unsigned values a.now + unsigned values b.now + digit (value_of values carry)))) }
     ensures belongs { IfOk result (Belongs g.new) }
     ensures grows { Grows g.old g.new }
     ensures conjunctions { AddsConjunctions g.old g.new }
@@ -37,7 +40,8 @@ pub fn ult(alloc: Global, g: &mut Gates, a: &Lits, b: &Lits) -> Result<Lit, Allo
     requires widths { length a.now ≡ length b.now }
     requires first { AllBelong g.old a.now }
     requires second { AllBelong g.old b.now }
-    ensures meaning { IfOk result (λ l. (values : List Bool) → IsValuation g.new values → value_of values l ≡ nat_lt (unsigned values a.now) (unsigned values b.now)) }
+    ensures meaning { IfOk result (λ l. InAll g.new (λ values.
+        value_of values l ≡ nat_lt (unsigned values a.now) (unsigned values b.now))) }
     ensures belongs { IfOk result (Belongs g.new) }
     ensures grows { Grows g.old g.new }
     ensures conjunctions { AddsConjunctions g.old g.new }
@@ -47,13 +51,15 @@ pub fn ult(alloc: Global, g: &mut Gates, a: &Lits, b: &Lits) -> Result<Lit, Allo
     Ok(lit_not(above))
 }
 
-/// Whether the signed number of `a` is below that of `b`: the unsigned comparison, with the two highest bits exchanged.
+/// Whether the signed number of `a` is below that of `b`: the unsigned comparison, with the two
+/// highest bits exchanged.
 pub fn slt(alloc: Global, g: &mut Gates, a: &Lits, b: &Lits) -> Result<Lit, AllocError>
     requires bits { 0 < length a.now }
     requires widths { length a.now ≡ length b.now }
     requires first { AllBelong g.old a.now }
     requires second { AllBelong g.old b.now }
-    ensures meaning { IfOk result (λ l. (values : List Bool) → IsValuation g.new values → value_of values l ≡ int_lt (signed values a.now) (signed values b.now)) }
+    ensures meaning { IfOk result (λ l. InAll g.new (λ values.
+        value_of values l ≡ int_lt (signed values a.now) (signed values b.now))) }
     ensures belongs { IfOk result (Belongs g.new) }
     ensures grows { Grows g.old g.new }
     ensures conjunctions { AddsConjunctions g.old g.new }
@@ -84,7 +90,8 @@ pub fn eq(_alloc: Global, g: &mut Gates, a: &Lits, b: &Lits) -> Result<Lit, Allo
     requires widths { length a.now ≡ length b.now }
     requires first { AllBelong g.old a.now }
     requires second { AllBelong g.old b.now }
-    ensures meaning { IfOk result (λ l. (values : List Bool) → IsValuation g.new values → value_of values l ≡ (unsigned values a.now == unsigned values b.now)) }
+    ensures meaning { IfOk result (λ l. InAll g.new (λ values.
+        value_of values l ≡ (unsigned values a.now == unsigned values b.now))) }
     ensures belongs { IfOk result (Belongs g.new) }
     ensures grows { Grows g.old g.new }
     ensures conjunctions { AddsConjunctions g.old g.new }

@@ -1,7 +1,9 @@
-//! Word circuits over gates: sums, comparisons, products, quotients and selections of vectors of any length, lowest bit first.
+//! Word circuits over gates: sums, comparisons, products, quotients and selections of vectors of
+//! any length, lowest bit first.
 //!
-//! Each call says, for every valuation of the gates after it, which number its answer spells, as a function of the numbers that
-//! its operands spell. Old nodes stay as they are, and the literals of an answer belong to the gates after the call.
+//! Each call says, for every valuation of the gates after it, which number its answer spells, as a
+//! function of the numbers that its operands spell. Old nodes stay as they are, and the literals of
+//! an answer belong to the gates after the call.
 #![tactic(auto)]
 
 mod bit;

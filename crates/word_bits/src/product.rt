@@ -1,8 +1,8 @@
 #![tactic(auto, using(crate::proofs::Circuits::circuits, crate::proofs::Circuits::belongs))]
 
-ghost use Rattle.std.specs.Prelude.{◌≡◌, ◌+◌, ◌*◌, ◌%◌, ◌^◌, ◌<◌, Bool, List, length, IfOk};
+ghost use Rattle.std.specs.Prelude.{◌≡◌, ◌+◌, ◌*◌, ◌%◌, ◌^◌, ◌<◌, length, IfOk};
 ghost use Rattle.gates.specs.Nodes.{Grows, AddsConjunctions, Belongs, AllBelong};
-ghost use Rattle.gates.specs.Valuation.{value_of, IsValuation};
+ghost use Rattle.gates.specs.Valuation.{value_of, InAll};
 ghost use Rattle.word_bits.specs.Number.{digit};
 ghost use Rattle.word_bits.specs.Words.{unsigned};
 
@@ -12,13 +12,15 @@ use crate::vector::{concat, front, repeated, tail};
 use gates::{Gates, Lit, Lits};
 use std::alloc::{AllocError, Global};
 
-/// The product of two vectors, modulo two to their width: one row for each bit of the second, each a bit shorter than the last.
+/// The product of two vectors, modulo two to their width: one row for each bit of the second, each
+/// a bit shorter than the last.
 pub fn mul(alloc: Global, g: &mut Gates, a: &Lits, b: &Lits) -> Result<Lits, AllocError>
     requires bits { 0 < length a.now }
     requires widths { length a.now ≡ length b.now }
     requires first { AllBelong g.old a.now }
     requires second { AllBelong g.old b.now }
-    ensures product { IfOk result (λ r. (values : List Bool) → IsValuation g.new values → unsigned values r ≡ (unsigned values a.now * unsigned values b.now) % 2 ^ length a.now) }
+    ensures product { IfOk result (λ r. InAll g.new (λ values.
+        unsigned values r ≡ (unsigned values a.now * unsigned values b.now) % 2 ^ length a.now)) }
     ensures width { IfOk result (λ r. length r ≡ length a.now) }
     ensures belongs { IfOk result (AllBelong g.new) }
     ensures grows { Grows g.old g.new }
@@ -45,8 +47,10 @@ fn add_row(
     requires first { AllBelong g.old product.now }
     requires second { AllBelong g.old a.now }
     requires third { Belongs g.old bit }
-    ensures sum { IfOk result (λ r. (values : List Bool) → IsValuation g.new values →
-        unsigned values r ≡ (unsigned values product.now + 2 ^ at * digit (value_of values bit) * unsigned values a.now) % 2 ^ length a.now) }
+    ensures sum { IfOk result (λ r. InAll g.new (λ values.
+        unsigned values r ≡
+        (unsigned values product.now +
+        2 ^ at * digit (value_of values bit) * unsigned values a.now) % 2 ^ length a.now)) }
     ensures width { IfOk result (λ r. length r ≡ length a.now) }
     ensures belongs { IfOk result (AllBelong g.new) }
     ensures grows { Grows g.old g.new }

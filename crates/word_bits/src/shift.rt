@@ -1,9 +1,9 @@
 #![tactic(auto, using(crate::proofs::Circuits::circuits, crate::proofs::Circuits::belongs))]
 
-ghost use Rattle.std.specs.Prelude.{◌≡◌, ◌*◌, ◌%◌, ◌^◌, ◌<◌, ◌≤◌, Bool, List, length, IfOk, ◌/◌, true, false, pos};
+ghost use Rattle.std.specs.Prelude.{◌≡◌, ◌*◌, ◌%◌, ◌^◌, ◌<◌, ◌≤◌, length, IfOk, ◌/◌, true, false, pos};
 ghost use Rattle.std.specs.Int.{int_div_euclid};
 ghost use Rattle.gates.specs.Nodes.{Grows, AddsConjunctions, Belongs, AllBelong};
-ghost use Rattle.gates.specs.Valuation.{value_of, values_of, IsValuation};
+ghost use Rattle.gates.specs.Valuation.{value_of, values_of, InAll};
 ghost use Rattle.word_bits.specs.Number.{digit, number_against};
 ghost use Rattle.word_bits.specs.Words.{unsigned, signed};
 
@@ -12,15 +12,18 @@ use crate::vector::{concat, filling, front, repeated, tail};
 use gates::{Gates, Lit, Lits};
 use std::alloc::{AllocError, Global};
 
-/// A vector times two to the number of another, modulo two to its width, where that number is at most the width.
+/// A vector times two to the number of another, modulo two to its width, where that number is at
+/// most the width.
 ///
 /// A barrel shifter: one stage for each bit of the amount that such a number can have.
 pub fn shl(alloc: Global, g: &mut Gates, a: &Lits, by: &Lits) -> Result<Lits, AllocError>
     requires bits { 0 < length a.now }
     requires first { AllBelong g.old a.now }
     requires second { AllBelong g.old by.now }
-    ensures shifted { IfOk result (λ r. (values : List Bool) → IsValuation g.new values → unsigned values by.now ≤ length a.now →
-        unsigned values r ≡ (unsigned values a.now * 2 ^ unsigned values by.now) % 2 ^ length a.now) }
+    ensures shifted { IfOk result (λ r. InAll g.new (λ values.
+        unsigned values by.now ≤ length a.now →
+        unsigned values r ≡
+        (unsigned values a.now * 2 ^ unsigned values by.now) % 2 ^ length a.now)) }
     ensures width { IfOk result (λ r. length r ≡ length a.now) }
     ensures belongs { IfOk result (AllBelong g.new) }
     ensures grows { Grows g.old g.new }
@@ -49,7 +52,10 @@ fn shift_up(
     requires within { distance ≤ length a.now }
     requires first { AllBelong g.old a.now }
     requires second { Belongs g.old bit }
-    ensures shifted { IfOk result (λ r. (values : List Bool) → IsValuation g.new values → unsigned values r ≡ (unsigned values a.now * 2 ^ (distance * digit (value_of values bit))) % 2 ^ length a.now) }
+    ensures shifted { IfOk result (λ r. InAll g.new (λ values.
+        unsigned values r ≡
+        (unsigned values a.now * 2 ^ (distance * digit (value_of values bit))) %
+        2 ^ length a.now)) }
     ensures width { IfOk result (λ r. length r ≡ length a.now) }
     ensures belongs { IfOk result (AllBelong g.new) }
     ensures grows { Grows g.old g.new }
@@ -62,8 +68,9 @@ fn shift_up(
     Ok(shifted)
 }
 
-/// A vector without as many of its lowest bits as the number of another says, where that number is at most the width.
-/// It is filled at the top with its highest bit where `copy_sign`, else with false.
+/// A vector without as many of its lowest bits as the number of another says, where that number is
+/// at most the width. It is filled at the top with its highest bit where `copy_sign`, else with
+/// false.
 ///
 /// A barrel shifter, as `shl`.
 pub fn shr(
@@ -76,10 +83,13 @@ pub fn shr(
     requires bits { 0 < length a.now }
     requires first { AllBelong g.old a.now }
     requires second { AllBelong g.old by.now }
-    ensures number { IfOk result (λ r. (values : List Bool) → IsValuation g.new values → unsigned values by.now ≤ length a.now → copy_sign ≡ false →
-        unsigned values r ≡ unsigned values a.now / 2 ^ unsigned values by.now) }
-    ensures signed { IfOk result (λ r. (values : List Bool) → IsValuation g.new values → unsigned values by.now ≤ length a.now → copy_sign ≡ true →
-        signed values r ≡ int_div_euclid (signed values a.now) (pos (2 ^ unsigned values by.now))) }
+    ensures number { IfOk result (λ r. InAll g.new (λ values.
+        unsigned values by.now ≤ length a.now → copy_sign ≡ false →
+        unsigned values r ≡ unsigned values a.now / 2 ^ unsigned values by.now)) }
+    ensures signed { IfOk result (λ r. InAll g.new (λ values.
+        unsigned values by.now ≤ length a.now → copy_sign ≡ true →
+        signed values r ≡
+        int_div_euclid (signed values a.now) (pos (2 ^ unsigned values by.now)))) }
     ensures width { IfOk result (λ r. length r ≡ length a.now) }
     ensures belongs { IfOk result (AllBelong g.new) }
     ensures grows { Grows g.old g.new }
@@ -110,8 +120,10 @@ fn shift_down(
     requires first { AllBelong g.old a.now }
     requires second { Belongs g.old bit }
     requires third { Belongs g.old fill }
-    ensures shifted { IfOk result (λ r. (values : List Bool) → IsValuation g.new values →
-        number_against (value_of values fill) (values_of values r) ≡ number_against (value_of values fill) (values_of values a.now) / 2 ^ (distance * digit (value_of values bit))) }
+    ensures shifted { IfOk result (λ r. InAll g.new (λ values.
+        number_against (value_of values fill) (values_of values r) ≡
+        number_against (value_of values fill) (values_of values a.now) /
+        2 ^ (distance * digit (value_of values bit)))) }
     ensures width { IfOk result (λ r. length r ≡ length a.now) }
     ensures belongs { IfOk result (AllBelong g.new) }
     ensures grows { Grows g.old g.new }

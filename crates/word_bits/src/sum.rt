@@ -1,8 +1,8 @@
 #![tactic(auto, using(crate::proofs::Circuits::circuits, crate::proofs::Circuits::belongs))]
 
-ghost use Rattle.std.specs.Prelude.{◌≡◌, ◌+◌, ◌*◌, ◌-◌, ◌%◌, ◌^◌, ◌<◌, Bool, List, length, IfOk};
+ghost use Rattle.std.specs.Prelude.{◌≡◌, ◌+◌, ◌*◌, ◌-◌, ◌%◌, ◌^◌, ◌<◌, length, IfOk};
 ghost use Rattle.gates.specs.Nodes.{Grows, AddsConjunctions, Belongs, AllBelong};
-ghost use Rattle.gates.specs.Valuation.{value_of, IsValuation};
+ghost use Rattle.gates.specs.Valuation.{value_of, InAll};
 ghost use Rattle.word_bits.specs.Number.{digit};
 ghost use Rattle.word_bits.specs.Words.{unsigned};
 
@@ -11,7 +11,8 @@ use crate::vector::{inverted, repeated};
 use gates::{Gates, Lit, Lits};
 use std::alloc::{AllocError, Global};
 
-/// The sum of two vectors and a carry, with the carry out of it: a ripple of full adders, seven gates a bit.
+/// The sum of two vectors and a carry, with the carry out of it: a ripple of full adders, seven
+/// gates a bit.
 pub(crate) fn add_with_carry(
     alloc: Global,
     g: &mut Gates,
@@ -23,8 +24,9 @@ pub(crate) fn add_with_carry(
     requires first { AllBelong g.old a.now }
     requires second { AllBelong g.old b.now }
     requires third { Belongs g.old carry }
-    ensures sum { IfOk result (λ r. (values : List Bool) → IsValuation g.new values →
-        unsigned values r.0 + 2 ^ length a.now * digit (value_of values r.1) ≡ unsigned values a.now + unsigned values b.now + digit (value_of values carry)) }
+    ensures sum { IfOk result (λ r. InAll g.new (λ values.
+        unsigned values r.0 + 2 ^ length a.now * digit (value_of values r.1) ≡
+        unsigned values a.now + unsigned values b.now + digit (value_of values carry))) }
     ensures width { IfOk result (λ r. length r.0 ≡ length a.now) }
     ensures belongs { IfOk result (λ r. AllBelong g.new r.0) }
     ensures carry_belongs { IfOk result (λ r. Belongs g.new r.1) }
@@ -43,7 +45,8 @@ pub(crate) fn add_with_carry(
     Ok((sum, through))
 }
 
-/// The difference of two vectors: the first and the negated second with a carry, without a second adder.
+/// The difference of two vectors: the first and the negated second with a carry, without a second
+/// adder.
 ///
 /// The carry out is set where the first number is not below the second.
 pub(crate) fn subtract(
@@ -56,8 +59,9 @@ pub(crate) fn subtract(
     requires widths { length a.now ≡ length b.now }
     requires first { AllBelong g.old a.now }
     requires second { AllBelong g.old b.now }
-    ensures difference { IfOk result (λ r. (values : List Bool) → IsValuation g.new values →
-        unsigned values r.0 + 2 ^ length a.now * digit (value_of values r.1) + unsigned values b.now ≡ unsigned values a.now + 2 ^ length a.now) }
+    ensures difference { IfOk result (λ r. InAll g.new (λ values.
+        unsigned values r.0 + 2 ^ length a.now * digit (value_of values r.1) +
+        unsigned values b.now ≡ unsigned values a.now + 2 ^ length a.now)) }
     ensures width { IfOk result (λ r. length r.0 ≡ length a.now) }
     ensures belongs { IfOk result (λ r. AllBelong g.new r.0) }
     ensures carry_belongs { IfOk result (λ r. Belongs g.new r.1) }
@@ -75,7 +79,8 @@ pub fn add(alloc: Global, g: &mut Gates, a: &Lits, b: &Lits) -> Result<Lits, All
     requires widths { length a.now ≡ length b.now }
     requires first { AllBelong g.old a.now }
     requires second { AllBelong g.old b.now }
-    ensures sum { IfOk result (λ r. (values : List Bool) → IsValuation g.new values → unsigned values r ≡ (unsigned values a.now + unsigned values b.now) % 2 ^ length a.now) }
+    ensures sum { IfOk result (λ r. InAll g.new (λ values.
+        unsigned values r ≡ (unsigned values a.now + unsigned values b.now) % 2 ^ length a.now)) }
     ensures width { IfOk result (λ r. length r ≡ length a.now) }
     ensures belongs { IfOk result (AllBelong g.new) }
     ensures grows { Grows g.old g.new }
@@ -85,13 +90,17 @@ pub fn add(alloc: Global, g: &mut Gates, a: &Lits, b: &Lits) -> Result<Lits, All
     Ok(sum)
 }
 
-/// The difference of two vectors, modulo two to their width: one adder, of the first and the inverted second.
+/// The difference of two vectors, modulo two to their width: one adder, of the first and the
+/// inverted second.
 pub fn sub(alloc: Global, g: &mut Gates, a: &Lits, b: &Lits) -> Result<Lits, AllocError>
     requires bits { 0 < length a.now }
     requires widths { length a.now ≡ length b.now }
     requires first { AllBelong g.old a.now }
     requires second { AllBelong g.old b.now }
-    ensures difference { IfOk result (λ r. (values : List Bool) → IsValuation g.new values → unsigned values r ≡ (unsigned values a.now + (2 ^ length a.now - unsigned values b.now)) % 2 ^ length a.now) }
+    ensures difference { IfOk result (λ r. InAll g.new (λ values.
+        unsigned values r ≡
+        (unsigned values a.now + (2 ^ length a.now - unsigned values b.now)) %
+        2 ^ length a.now)) }
     ensures width { IfOk result (λ r. length r ≡ length a.now) }
     ensures belongs { IfOk result (AllBelong g.new) }
     ensures grows { Grows g.old g.new }
@@ -105,7 +114,8 @@ pub fn sub(alloc: Global, g: &mut Gates, a: &Lits, b: &Lits) -> Result<Lits, All
 pub fn neg(alloc: Global, g: &mut Gates, a: &Lits) -> Result<Lits, AllocError>
     requires bits { 0 < length a.now }
     requires first { AllBelong g.old a.now }
-    ensures negation { IfOk result (λ r. (values : List Bool) → IsValuation g.new values → unsigned values r ≡ (2 ^ length a.now - unsigned values a.now) % 2 ^ length a.now) }
+    ensures negation { IfOk result (λ r. InAll g.new (λ values.
+        unsigned values r ≡ (2 ^ length a.now - unsigned values a.now) % 2 ^ length a.now)) }
     ensures width { IfOk result (λ r. length r ≡ length a.now) }
     ensures belongs { IfOk result (AllBelong g.new) }
     ensures grows { Grows g.old g.new }

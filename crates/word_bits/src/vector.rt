@@ -2,7 +2,7 @@
 
 ghost use Rattle.std.specs.Prelude.{◌≡◌, ◌+◌, ◌*◌, ◌-◌, ◌/◌, ◌%◌, ◌^◌, ◌<◌, ◌≤◌, max, Bool, true, false, ◌&&◌, List, ◌++◌, length, take, drop, replicate, IfOk};
 ghost use Rattle.gates.specs.Literal.{span};
-ghost use Rattle.gates.specs.Valuation.{value_of, values_of, IsValuation};
+ghost use Rattle.gates.specs.Valuation.{value_of, values_of, InAll};
 ghost use Rattle.gates.specs.declared.node.Node.{Node};
 ghost use Rattle.word_bits.specs.Number.{top};
 ghost use Rattle.word_bits.specs.Words.{unsigned, signed};
@@ -19,7 +19,8 @@ pub(crate) fn repeated(alloc: Global, bit: Lit, n: usize) -> Result<Lits, AllocE
 
 /// The negation of each literal.
 pub(crate) fn inverted(alloc: Global, a: &Lits) -> Result<Lits, AllocError>
-    ensures number { IfOk result (λ r. (values : List Bool) → unsigned values r + unsigned values a.now + 1 ≡ 2 ^ length a.now) }
+    ensures number { IfOk result (λ r. (values : List Bool) →
+        unsigned values r + unsigned values a.now + 1 ≡ 2 ^ length a.now) }
     ensures width { IfOk result (λ r. length r ≡ length a.now) }
     ensures span { IfOk result (λ r. span r ≤ span a.now) }
 {
@@ -47,10 +48,12 @@ pub(crate) fn tail(alloc: Global, a: &Lits, n: usize) -> Result<Lits, AllocError
     Ok(Lits::from_vec(Vec::from_slice(alloc, &a.as_slice()[n..])?))
 }
 
-/// The literal that fills the places above a vector: its highest bit where `copy_sign`, else the false one.
+/// The literal that fills the places above a vector: its highest bit where `copy_sign`, else the
+/// false one.
 pub(crate) fn filling(a: &Lits, copy_sign: bool) -> Lit
     requires bits { 0 < length a.now }
-    ensures value { (nodes : List Node) (values : List Bool) → IsValuation nodes values → value_of values result ≡ (copy_sign && top (values_of values a.now)) }
+    ensures value { (nodes : List Node) → InAll nodes (λ values.
+        value_of values result ≡ (copy_sign && top (values_of values a.now))) }
     ensures within { result.node < span a.now }
 {
     if copy_sign {
@@ -65,7 +68,8 @@ pub fn select(alloc: Global, a: &Lits, high: usize, low: usize) -> Result<Lits, 
     requires ordered { low ≤ high }
     requires within { high < length a.now }
     ensures literals { IfOk result (λ r. r ≡ take (high + 1 - low) (drop low a.now)) }
-    ensures number { IfOk result (λ r. (values : List Bool) → unsigned values r ≡ unsigned values a.now / 2 ^ low % 2 ^ (high + 1 - low)) }
+    ensures number { IfOk result (λ r. (values : List Bool) →
+        unsigned values r ≡ unsigned values a.now / 2 ^ low % 2 ^ (high + 1 - low)) }
     ensures width { IfOk result (λ r. length r ≡ high + 1 - low) }
     ensures belongs { IfOk result (λ r. span r ≤ span a.now) }
 {
@@ -75,7 +79,8 @@ pub fn select(alloc: Global, a: &Lits, high: usize, low: usize) -> Result<Lits, 
 /// The bits of `low`, and those of `high` above them.
 pub fn concat(alloc: Global, high: &Lits, low: &Lits) -> Result<Lits, AllocError>
     ensures literals { IfOk result (λ r. r ≡ low.now ++ high.now) }
-    ensures number { IfOk result (λ r. (values : List Bool) → unsigned values r ≡ unsigned values low.now + 2 ^ length low.now * unsigned values high.now) }
+    ensures number { IfOk result (λ r. (values : List Bool) → unsigned values r ≡
+        unsigned values low.now + 2 ^ length low.now * unsigned values high.now) }
     ensures width { IfOk result (λ r. length r ≡ length low.now + length high.now) }
     ensures belongs { IfOk result (λ r. span r ≡ max (span low.now) (span high.now)) }
 {
@@ -88,8 +93,10 @@ pub fn concat(alloc: Global, high: &Lits, low: &Lits) -> Result<Lits, AllocError
 pub fn extend(alloc: Global, a: &Lits, width: usize, copy_sign: bool) -> Result<Lits, AllocError>
     requires bits { 0 < length a.now }
     requires wider { length a.now ≤ width }
-    ensures number { IfOk result (λ r. (nodes : List Node) (values : List Bool) → IsValuation nodes values → copy_sign ≡ false → unsigned values r ≡ unsigned values a.now) }
-    ensures signed { IfOk result (λ r. (nodes : List Node) (values : List Bool) → IsValuation nodes values → copy_sign ≡ true → signed values r ≡ signed values a.now) }
+    ensures number { IfOk result (λ r. (nodes : List Node) → InAll nodes (λ values.
+        copy_sign ≡ false → unsigned values r ≡ unsigned values a.now)) }
+    ensures signed { IfOk result (λ r. (nodes : List Node) → InAll nodes (λ values.
+        copy_sign ≡ true → signed values r ≡ signed values a.now)) }
     ensures width { IfOk result (λ r. length r ≡ width) }
     ensures belongs { IfOk result (λ r. span r ≡ span a.now) }
 {

@@ -8,7 +8,7 @@ use Rattle.sat_trail.specs.Trail.{literals, bottom}
 use Rattle.sat_trail.specs.Units.{AreDecided}
 use Rattle.sat_analysis.specs.Analysis.{Analyzed, is_marked, IsMarked, MarksOthers, IsAnalysis, AreNegationsOf}
 use Rattle.sat_trail.proofs.Levels.{trail_distinct}
-use Rattle.sat_analysis.proofs.Visits.{parts_of, analyzed_is, unmarked_at, visit_skip, visit_keep, reason_of, visit_resolve}
+use Rattle.sat_analysis.proofs.Visits.{parts_of, analyzed_is, unmarked_at, visit_skip, visit_keep, reason_at, visit_resolve}
 use Rattle.sat_analysis.proofs.analysis.Analysis.trace.Goals as goal
 
 pub resolve-marked-requires-clause-distinct : goal.resolve-marked-requires-clause-distinct
@@ -55,7 +55,7 @@ returns-in-Some-clause-state c =
     let a = c.args.self.now.state in
     let marked : IsMarked a.seen e.literal.var = sym (c.unmark.ensures.mark ∙ ap (is_marked a.seen) c.var.ensures.value) ∙ c.if-not-unmark.false in
     let before = unmarked_at c.unmark.new.self.state a c.var.result e.literal.var c.unmark.ensures.new c.var.ensures.value in
-    let r = reason_of log entries c.args.i e a c.requires.log c.requires.trail c.entry-entry.ensures.entry c.requires.state c.in-Some.reason c.in-Some.is in
+    let r = reason_at log entries c.args.i e c.requires.trail c.entry-entry.ensures.entry c.in-Some.reason c.in-Some.is in
     let marks = subst (λ (x : Analyzed). MarksOthers (literals entries) r.clause x.seen c.resolve-marked.new.self.state.seen) before (c.resolve-marked.ensures.marks r.clause r.named) in
     let size : length c.resolve-marked.new.self.state.seen ≡ length a.seen = c.resolve-marked.ensures.size ∙ ap (λ (x : Analyzed). length x.seen) before ∙ length-set a.seen e.literal.var false in
     let after = analyzed_is c.resolve-marked.new.self.state a.lits (c.in-Some.reason ∷ a.hints) (c.resolve-marked.ensures.lits ∙ ap (λ (x : Analyzed). x.lits) before) (c.resolve-marked.ensures.hints ∙ ap (λ (x : Analyzed). c.in-Some.reason ∷ x.hints) before) in

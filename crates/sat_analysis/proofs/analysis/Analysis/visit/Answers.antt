@@ -6,7 +6,7 @@ use Rattle.sat_analysis.specs.Analysis.{Analyzed, is_marked, IsMarked, marked_at
 use Rattle.sat_trail.specs.declared.trail.Entry.{Entry}
 use Rattle.sat_trail.proofs.Levels.{trail_distinct}
 use Rattle.sat_analysis.proofs.Asserting.{skipped_counts, count_here, IsLeft, left_counts, kept_asserts, resolved_asserts}
-use Rattle.sat_analysis.proofs.Visits.{parts_of, bottom_length, marked_at_most, analyzed_is, unmarked_at, tail_trail, visit_skip, visit_keep, reason_of, others_false_in, visit_resolve}
+use Rattle.sat_analysis.proofs.Visits.{parts_of, bottom_length, marked_at_most, analyzed_is, unmarked_at, tail_trail, visit_skip, visit_keep, reason_at, others_false_at, visit_resolve}
 use Rattle.sat_analysis.proofs.analysis.Analysis.visit.Goals as goal
 use Rattle.sat_analysis.proofs.analysis.Analysis.visit.Goals.{then-entry-level, else-entry-level, After-unmark, Joined-entry-level, After-resolve, After-keep}
 
@@ -100,8 +100,8 @@ resolved_count c is_left =
     let entries = c.args.trail.now.entries in
     let e = c.entry-entry.result in
     let a = c.args.self.now.state in
-    let r = reason_of log entries c.args.i e a c.requires.log c.requires.trail c.entry-entry.ensures.entry c.requires.state c.in-Some.reason c.in-Some.ensures.reason in
-    let false_in = others_false_in log entries c.args.i e a c.requires.log c.requires.trail c.entry-entry.ensures.entry c.requires.state c.in-Some.reason r in
+    let r = reason_at log entries c.args.i e c.requires.trail c.entry-entry.ensures.entry c.in-Some.reason c.in-Some.ensures.reason in
+    let false_in = others_false_at log entries c.args.i e c.requires.trail c.entry-entry.ensures.entry c.in-Some.reason r in
     let found = c.resolve.ensures.count r.clause c.args.i r.named false_in in
     let before = unmarked_at c.unmark.new.self.state a c.var.result e.literal.var c.unmark.ensures.new c.var.ensures.value in
     let counted = c.requires.counted ∙ ap (marked_at c.args.level a.seen) c.entry-entry.ensures.entry in
@@ -141,7 +141,7 @@ returns-in-Some-clause-state c =
     let a = c.args.self.now.state in
     let d = (goal.at.returns-in-Some-clause-state c).After-resolve in
     let before = unmarked_at c.unmark.new.self.state a c.var.result e.literal.var c.unmark.ensures.new c.var.ensures.value in
-    let r = reason_of log entries c.args.i e a c.requires.log c.requires.trail c.entry-entry.ensures.entry c.requires.state c.in-Some.reason c.in-Some.ensures.reason in
+    let r = reason_at log entries c.args.i e c.requires.trail c.entry-entry.ensures.entry c.in-Some.reason c.in-Some.ensures.reason in
     let marks = subst (λ (x : Analyzed). MarksOthers (literals entries) r.clause x.seen c.resolve.new.self.state.seen) before (c.resolve.ensures.marks r.clause r.named) in
     let size : length c.resolve.new.self.state.seen ≡ length a.seen = c.resolve.ensures.size ∙ ap (λ (x : Analyzed). length x.seen) before ∙ length-set a.seen e.literal.var false in
     let after = analyzed_is c.resolve.new.self.state a.lits (c.in-Some.reason ∷ a.hints) (c.resolve.ensures.lits ∙ ap (λ (x : Analyzed). x.lits) before) (c.resolve.ensures.hints ∙ ap (λ (x : Analyzed). c.in-Some.reason ∷ x.hints) before) in

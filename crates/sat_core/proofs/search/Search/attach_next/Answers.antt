@@ -22,7 +22,7 @@ invariant_of-self c =
     let s = c.self.inside in
     let t = c.attach_clause.new.trail in (
       keeps_implied s.log s.trail t s.analysis.state c.self.invariant.0 c.attach_clause.ensures.trail c.attach_clause.ensures.implied c.attach_clause.ensures.variables,
-      attached_implied s.log s.trail t s.propagation c.attach_clause.new.propagation s.attached s.refuted c.attach_clause.ensures.implied c.attach_clause.ensures.watched c.attach_clause.ensures.ready c.self.invariant.1,
+      attached_implied s.log s.trail t s.propagation c.attach_clause.new.propagation s.attached s.false_clause c.attach_clause.ensures.implied c.attach_clause.ensures.watched c.attach_clause.ensures.ready c.self.invariant.1,
     )
 
 pub returns-in_err-possible-clause-level : goal.returns-in_err-possible-clause-level
@@ -39,7 +39,7 @@ invariant_of-self-then-possible c =
     let below : s.attached < length s.log = subst (λ (v : Searched). v.attached < length v.log) (sym c.self.view_is) c.requires.inside in
     let here = subst (Attaches s.log t.entries q (s.attached + 1)) c.if-possible.true c.in_ok-possible.ensures.ok in (
       keeps_implied s.log s.trail t s.analysis.state c.self.invariant.0 c.attach_clause.ensures.trail c.attach_clause.ensures.implied c.attach_clause.ensures.variables,
-      attach_keeps s.log s.trail t s.propagation q s.attached s.refuted below (level (goal.at.invariant_of-self-then-possible c).After-attach_clause) c.attach_clause.ensures.implied c.attach_clause.ensures.watched c.attach_clause.ensures.ready here c.self.invariant.1,
+      attach_keeps s.log s.trail t s.propagation q s.attached s.false_clause below (level (goal.at.invariant_of-self-then-possible c).After-attach_clause) c.attach_clause.ensures.implied c.attach_clause.ensures.watched c.attach_clause.ensures.ready here c.self.invariant.1,
     )
 
 pub returns-then-possible-clause-level : goal.returns-then-possible-clause-level

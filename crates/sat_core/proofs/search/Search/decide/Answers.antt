@@ -38,7 +38,7 @@ invariant_of-self c =
     let free : IsUnset (literals s.trail.entries) c.in-Some.literal =
     (c.in-Some.ensures.open_, (λ m. iff_false c.is_true.ensures c.if-is_true.false (subst (Among (literals s.trail.entries)) (sym c.negated.ensures) m))) in
     let all : length s.trail.entries ≤ s.propagation.looked = subst (λ (v : Searched). length v.entries ≤ v.looked) (sym c.self.view_is) c.requires.all in
-    (keeps_decision s.log s.trail c.decide.new.self s.analysis.state c.in-Some.literal c.self.invariant.0 free quiet c.decide.ensures.entries c.decide.ensures.variables, attached_decided s.log s.trail c.decide.new.self s.propagation s.attached s.refuted c.in-Some.literal c.decide.ensures.variables c.decide.ensures.entries all c.self.invariant.1)
+    (keeps_decision s.log s.trail c.decide.new.self s.analysis.state c.in-Some.literal c.self.invariant.0 free quiet c.decide.ensures.entries c.decide.ensures.variables, attached_decided s.log s.trail c.decide.new.self s.propagation s.attached s.false_clause c.in-Some.literal c.decide.ensures.variables c.decide.ensures.entries all c.self.invariant.1)
 
 pub invariant_of-self-in-Some-unset : goal.invariant_of-self-in-Some-unset
 invariant_of-self-in-Some-unset c =
@@ -51,4 +51,4 @@ invariant_of-self-in-Some-unset c =
     let entries : t.entries ≡ record { literal = l; level = top s.trail.entries + 1; reason = None } ∷ s.trail.entries =
     c.decide-in-Some-unset.ensures.entries ∙ ap (λ (u : Trailed). record { literal = l; level = top u.entries + 1; reason = None } ∷ u.entries) same in
     let variables : t.variables ≡ s.trail.variables = c.decide-in-Some-unset.ensures.variables ∙ ap (λ (u : Trailed). u.variables) same in
-    (keeps_decision s.log s.trail t s.analysis.state l c.self.invariant.0 c.in-Some-unset.ensures.unset quiet entries variables, attached_decided s.log s.trail t s.propagation s.attached s.refuted l variables entries all c.self.invariant.1)
+    (keeps_decision s.log s.trail t s.analysis.state l c.self.invariant.0 c.in-Some-unset.ensures.unset quiet entries variables, attached_decided s.log s.trail t s.propagation s.attached s.false_clause l variables entries all c.self.invariant.1)

@@ -44,16 +44,16 @@ append-requires-clause-accepted c =
 pub invariant_of-self-in_err-watcher : goal.invariant_of-self-in_err-watcher
 invariant_of-self-in_err-watcher c =
     let s = c.self.inside in
-    (keeps_marks s.log s.trail s.analysis.state c.analyze.new.self.state c.self.invariant.0 c.analyze.ensures.state c.analyze.ensures.size, subst (λ p. KeepsAttached s.log s.trail p s.attached s.refuted) (sym c.in_err-watcher.ensures.err) c.self.invariant.1)
+    (keeps_marks s.log s.trail s.analysis.state c.analyze.new.self.state c.self.invariant.0 c.analyze.ensures.state c.analyze.ensures.size, subst (λ p. KeepsAttached s.log s.trail p s.attached s.false_clause) (sym c.in_err-watcher.ensures.err) c.self.invariant.1)
 
 pub invariant_of-self-in_err-id : goal.invariant_of-self-in_err-id
 invariant_of-self-in_err-id c =
     let s = c.self.inside in
     let p = c.watch_two.new.propagation in
     let watches = subst (λ (l : List Literal). WatchesTwo s.propagation p l c.in_ok-watcher.watcher) c.as_slice-2.ensures c.in_ok-watcher.ensures.ok in
-    subst (λ log. KeepsSearch log s.trail c.analyze.new.self.state × KeepsAttached log s.trail p s.attached s.refuted) (sym c.in_err-id.ensures.err) (
+    subst (λ log. KeepsSearch log s.trail c.analyze.new.self.state × KeepsAttached log s.trail p s.attached s.false_clause) (sym c.in_err-id.ensures.err) (
       keeps_marks s.log s.trail s.analysis.state c.analyze.new.self.state c.self.invariant.0 c.analyze.ensures.state c.analyze.ensures.size,
-      kept_watches s.log s.trail s.propagation p s.attached s.refuted c.in_ok-line.line.lits c.in_ok-watcher.watcher watches c.self.invariant.1,
+      kept_watches s.log s.trail s.propagation p s.attached s.false_clause c.in_ok-line.line.lits c.in_ok-watcher.watcher watches c.self.invariant.1,
     )
 
 pub imply-requires-clause-exists : goal.imply-requires-clause-exists
@@ -95,7 +95,7 @@ invariant_of-self-2 c =
           c.imply.new.self c.imply.ensures.variables c.imply.ensures.entries,
       learned_clauses s.log log s.trail back s.analysis.state a jump id line l c.self.invariant.0 above c.analyze.ensures.state c.analyze.ensures.asserting c.analyze.ensures.size c.in_ok-line.ensures c.jump_level-level.ensures first c.in_ok-id.ensures.ok c.in_ok-id.ensures.id (jumped (goal.at.invariant_of-self-2 c).After-backjump) (as_many (goal.at.invariant_of-self-2 c).After-backjump)
           c.imply.new.self c.imply.ensures.variables c.imply.ensures.entries
-          s.propagation p c.backjump.new.self c.serve.new.propagation s.attached s.refuted c.in_ok-watcher.watcher c.self.invariant.1 whole watches c.backjump.ensures.watched c.backjump.ensures.ids (λ r. c.backjump.ensures.ready log (subst (λ (t : Trailed). IsReady log t p) (sym c.prefer.ensures) r)) c.serve.ensures,
+          s.propagation p c.backjump.new.self c.serve.new.propagation s.attached s.false_clause c.in_ok-watcher.watcher c.self.invariant.1 whole watches c.backjump.ensures.watched c.backjump.ensures.lines (λ r. c.backjump.ensures.ready log (subst (λ (t : Trailed). IsReady log t p) (sym c.prefer.ensures) r)) c.binary (λ e. e) c.serve.ensures,
     )
 
 pub returns-clause-ok : goal.returns-clause-ok

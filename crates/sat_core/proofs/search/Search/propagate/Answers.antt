@@ -14,7 +14,7 @@ invariant_of-self c =
     let s = c.self.inside in
     let k = c.self.invariant in (
       keeps_implied s.log s.trail c.propagate.new.trail s.analysis.state k.0 c.propagate.ensures.trail c.propagate.ensures.implied c.propagate.ensures.variables,
-      attached_propagated s.log s.trail c.propagate.new.trail s.propagation c.propagate.new.self s.attached s.refuted c.propagate.ensures.implied c.propagate.ensures.lines c.propagate.ensures.ready k.1,
+      attached_propagated s.log s.trail c.propagate.new.trail s.propagation c.propagate.new.self s.attached s.false_clause c.propagate.ensures.implied c.propagate.ensures.lines c.propagate.ensures.ready k.1,
     )
 
 pub returns-clause-asked : goal.returns-clause-asked
@@ -28,7 +28,7 @@ returns-clause-true_ c want true_ =
 pub returns-then-is_some-clause-conflict : goal.returns-then-is_some-clause-conflict
 returns-then-is_some-clause-conflict c =
     let s = c.self.inside in
-    subst (λ (v : Searched). IfSome s.refuted (IsConflict v.log (literals v.entries))) c.self.view_is (refuted_now s.log s.trail s.propagation s.attached s.refuted c.self.invariant.1)
+    subst (λ (v : Searched). IfSome s.false_clause (IsConflict v.log (literals v.entries))) c.self.view_is (refuted_now s.log s.trail s.propagation s.attached s.false_clause c.self.invariant.1)
 
 pub propagate-requires-clause-log : goal.propagate-requires-clause-log
 propagate-requires-clause-log c = subst (λ (v : Searched). IsLog v.log) (sym c.self.view_is) c.requires.log
@@ -42,6 +42,6 @@ returns-clause-quiet c =
     let t = c.propagate.new.trail in
     let q = c.propagate.new.self in
     let whole : s.attached ≡ length s.log = subst (λ (v : Searched). v.attached ≡ length v.log) (sym c.self.view_is) c.requires.attached in
-    let none : s.refuted ≡ None = none_of s.refuted (sym c.is_some.ensures ∙ c.if-is_some.false) in
-    let kept = attached_propagated s.log s.trail t s.propagation q s.attached s.refuted c.propagate.ensures.implied c.propagate.ensures.lines c.propagate.ensures.ready c.self.invariant.1 in
+    let none : s.false_clause ≡ None = none_of s.false_clause (sym c.is_some.ensures ∙ c.if-is_some.false) in
+    let kept = attached_propagated s.log s.trail t s.propagation q s.attached s.false_clause c.propagate.ensures.implied c.propagate.ensures.lines c.propagate.ensures.ready c.self.invariant.1 in
     if_none c.propagate.result (λ all. attached_quiet s.log t q s.attached whole all (subst (λ (r : Option ℕ). KeepsAttached s.log t q s.attached r) none kept)) c.propagate.ensures.all

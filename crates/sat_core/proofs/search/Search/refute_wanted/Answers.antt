@@ -35,9 +35,9 @@ pub invariant_of-self : goal.invariant_of-self
 invariant_of-self c =
     let s = c.self.inside in
     let a = c.refute_wanted.new.self.state in
-    by_result (λ log. KeepsSearch log s.trail a × KeepsAttached log s.trail s.propagation s.attached s.refuted) c.append_final.result s.log c.append_final.new.log (record { kind = Final; lits = a.lits; hints = a.hints }) c.append_final.ensures.ok c.append_final.ensures.err
+    by_result (λ log. KeepsSearch log s.trail a × KeepsAttached log s.trail s.propagation s.attached s.false_clause) c.append_final.result s.log c.append_final.new.log (record { kind = Final; lits = a.lits; hints = a.hints }) c.append_final.ensures.ok c.append_final.ensures.err
     (keeps_marks s.log s.trail s.analysis.state a c.self.invariant.0 c.refute_wanted.ensures.state c.refute_wanted.ensures.size, c.self.invariant.1)
-    (keeps_final s.log s.trail s.analysis.state a c.self.invariant.0 c.refute_wanted.ensures.state c.refute_wanted.ensures.size, attached_line s.log s.trail s.propagation s.attached s.refuted (record { kind = Final; lits = a.lits; hints = a.hints }) c.self.invariant.1)
+    (keeps_final s.log s.trail s.analysis.state a c.self.invariant.0 c.refute_wanted.ensures.state c.refute_wanted.ensures.size, attached_line s.log s.trail s.propagation s.attached s.false_clause (record { kind = Final; lits = a.lits; hints = a.hints }) c.self.invariant.1)
 
 pub returns-clause-ok : goal.returns-clause-ok
 returns-clause-ok c =

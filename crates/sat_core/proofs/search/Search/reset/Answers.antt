@@ -9,7 +9,7 @@ use Rattle.sat_core.proofs.search.Search.reset.Goals as goal
 pub invariant_of-self : goal.invariant_of-self
 invariant_of-self c =
     let s = c.self.inside in
-    (keeps_reset s.log s.trail c.backjump.new.trail s.analysis.state c.self.invariant.0 c.backjump.ensures.entries c.backjump.ensures.variables, attached_before s.log s.trail c.backjump.new.trail s.propagation c.backjump.new.self s.attached 0 s.refuted c.backjump.ensures.entries c.backjump.ensures.watched c.backjump.ensures.ids (c.backjump.ensures.ready s.log c.self.invariant.1.ready) c.self.invariant.1)
+    (keeps_reset s.log s.trail c.backjump.new.trail s.analysis.state c.self.invariant.0 c.backjump.ensures.entries c.backjump.ensures.variables, attached_before s.log s.trail c.backjump.new.trail s.propagation c.backjump.new.self s.attached 0 s.false_clause c.backjump.ensures.entries c.backjump.ensures.watched c.backjump.ensures.lines (c.backjump.ensures.ready s.log c.self.invariant.1.ready) c.self.invariant.1)
 
 pub returns-clause-level : goal.returns-clause-level
 returns-clause-level c = ap top c.backjump.ensures.entries ∙ reset_top c.self.inside.log c.self.inside.trail.entries c.self.invariant.0.trail_is

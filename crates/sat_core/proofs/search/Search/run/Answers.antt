@@ -4,7 +4,7 @@ use Rattle.sat_log.specs.declared.line.LogLine.{LogLine}
 use Rattle.sat_log.specs.Accepted.{IsLog}
 use Rattle.sat_log.specs.Checking.{AreUpTo}
 use Rattle.sat_core.specs.Gained.{gained, conflicts, HasNoOriginal}
-use Rattle.sat_core.specs.Gains.{found, spent, stopped, Gains}
+use Rattle.sat_core.specs.Gains.{Satisfied, OutOfBudget, OutOfMemory, Gains}
 use Rattle.sat_core.specs.Verdicts.{IsBelow, IsWithin}
 use Rattle.sat_core.specs.Search.{AddsFinal, StepsTo}
 use Rattle.sat_core.specs.declared.search.Step.{Step}
@@ -48,7 +48,7 @@ returns-clause-gains c =
     let fresh = c.learned_lines_are_fresh.ensures start new.log h.learned_is in
     let few = c.learned_lines_are_few.ensures n start new.log c.loop-budget.invariant.is_log c.loop-budget.invariant.exist h.longer h.learned_is in
     let all = is_spent c.args.budget c.loop-budget.learned c.loop-budget.invariant.within (λ below. iff_false c.allows.ensures c.loop-budget-test.false below) in
-    gains_learned n c.args.budget c.args.want.now start new.log new.log (spent c.loop-budget.learned) refl h c.loop-budget.invariant.is_log fresh few (has_no_final n c.args.budget c.args.want.now start new.log new.log refl h, all, sym c.loop-budget.invariant.count)
+    gains_learned n c.args.budget c.args.want.now start new.log new.log (OutOfBudget c.loop-budget.learned) refl h c.loop-budget.invariant.is_log fresh few (has_no_final n c.args.budget c.args.want.now start new.log new.log refl h, all, sym c.loop-budget.invariant.count)
 
 pub returns-in_err-step-clause-gains : goal.returns-in_err-step-clause-gains
 returns-in_err-step-clause-gains c =
@@ -61,7 +61,7 @@ returns-in_err-step-clause-gains c =
     let fresh = c.learned_lines_are_fresh.ensures start new.log learned.learned_is in
     let few = c.learned_lines_are_few.ensures n start new.log c.lines-lines.ensures.log c.lines-lines.ensures.exist learned.longer learned.learned_is in
     let within = subst (IsWithin c.args.budget) (c.loop-budget.invariant.count ∙ ap (λ (l : List LogLine). conflicts (gained start l)) (sym same)) c.loop-budget.invariant.within in
-    outcome_err (Gains n c.args.budget c.args.want.now start new.log) c.from_residual-in_err-step.result c.from_residual-in_err-step.ensures.0 (gains_learned n c.args.budget c.args.want.now start c.loop-budget.self.log new.log stopped same h c.lines-lines.ensures.log fresh few (has_no_final n c.args.budget c.args.want.now start c.loop-budget.self.log new.log same h, within))
+    outcome_err (Gains n c.args.budget c.args.want.now start new.log) c.from_residual-in_err-step.result c.from_residual-in_err-step.ensures.0 (gains_learned n c.args.budget c.args.want.now start c.loop-budget.self.log new.log OutOfMemory same h c.lines-lines.ensures.log fresh few (has_no_final n c.args.budget c.args.want.now start c.loop-budget.self.log new.log same h, within))
 
 pub returns-clause-no_original : goal.returns-clause-no_original
 returns-clause-no_original c = none_original (gained c.args.self.now.log c.loop-budget.self.log) c.loop-budget.invariant.gains.conflict
@@ -89,7 +89,7 @@ returns-in-Yes-clause-gains c =
     let fresh = c.learned_lines_are_fresh.ensures start new.log learned.learned_is in
     let few = c.learned_lines_are_few.ensures n start new.log c.lines-lines.ensures.log c.lines-lines.ensures.exist learned.longer learned.learned_is in
     let below = subst (IsBelow c.args.budget) c.loop-budget.invariant.count (c.allows.ensures.0 c.loop-budget-test.true) in
-    gains_learned n c.args.budget c.args.want.now start c.loop-budget.self.log new.log found same h c.lines-lines.ensures.log fresh few (has_no_final n c.args.budget c.args.want.now start c.loop-budget.self.log new.log same h, subst (λ (l : List LogLine). IsBelow c.args.budget (conflicts (gained start l))) (sym same) below)
+    gains_learned n c.args.budget c.args.want.now start c.loop-budget.self.log new.log Satisfied same h c.lines-lines.ensures.log fresh few (has_no_final n c.args.budget c.args.want.now start c.loop-budget.self.log new.log same h, subst (λ (l : List LogLine). IsBelow c.args.budget (conflicts (gained start l))) (sym same) below)
 
 pub loop-budget-preserved : goal.loop-budget-preserved
 loop-budget-preserved c =
@@ -162,4 +162,4 @@ returns-in_err-attach-clause-gains c =
     let few = c.learned_lines_are_few.ensures n start new.log is_log exist h.longer h.learned_is in
     let none : 0 ≡ conflicts (gained start start) = sym (all_conflicts (gained start start) learned.conflict ∙ gained_length start start learned.longer ∙ omega arith) in
     let within = subst (IsWithin c.args.budget) (none ∙ ap (λ (l : List LogLine). conflicts (gained start l)) (sym same)) (within_none c.args.budget) in
-    outcome_err (Gains n c.args.budget c.args.want.now start new.log) c.from_residual.result c.from_residual.ensures.0 (gains_learned n c.args.budget c.args.want.now start start new.log stopped same learned is_log fresh few (has_no_final n c.args.budget c.args.want.now start start new.log same learned, within))
+    outcome_err (Gains n c.args.budget c.args.want.now start new.log) c.from_residual.result c.from_residual.ensures.0 (gains_learned n c.args.budget c.args.want.now start start new.log OutOfMemory same learned is_log fresh few (has_no_final n c.args.budget c.args.want.now start start new.log same learned, within))

@@ -4,7 +4,7 @@ use Rattle.sat_log.specs.Clause.{HasDistinctVariables}
 use Rattle.sat_log.specs.Checking.{IsUpTo}
 use Rattle.sat_log.specs.Accepted.{originals}
 use Rattle.sat_core.specs.Assignment.{HasNoSolution as HasNoAssignment}
-use Rattle.sat_core.specs.Gains.{Gains, outcome as outcome_found, stopped}
+use Rattle.sat_core.specs.Gains.{Gains, outcome as outcome_found, OutOfMemory}
 use Rattle.sat_link.specs.Encoding.{all_encoded, definitions}
 use Rattle.sat_link.specs.Definitional.{IsWhole}
 use Rattle.sat_link.specs.Answers.{HasNoSolution}
@@ -50,8 +50,8 @@ returns-in_err-found-clause-gains c =
     let new = c.search.new.self in
     let mid = c.define_all.new.self in
     gains_stopped new.variables c.args.budget (all_encoded c.args.want.now) c.args.self.now.log new.log _ c.from_residual-in_err-found.result c.from_residual-in_err-found.ensures.1
-    (gains_after new.variables c.args.budget (all_encoded c.args.want.now) c.args.self.now.log mid.log new.log stopped c.define_all.ensures.towards.log
-    (subst (λ want. Gains new.variables c.args.budget want mid.log new.log stopped) c.in_ok-want.ensures c.in_err-found.ensures.gains))
+    (gains_after new.variables c.args.budget (all_encoded c.args.want.now) c.args.self.now.log mid.log new.log OutOfMemory c.define_all.ensures.towards.log
+    (subst (λ want. Gains new.variables c.args.budget want mid.log new.log OutOfMemory) c.in_ok-want.ensures c.in_err-found.ensures.gains))
 
 pub returns-in_err-found-clause-definitional : goal.returns-in_err-found-clause-definitional
 returns-in_err-found-clause-definitional c = searched_definitional c.define_all.new.self c.search.new.self c.args.g.now c.search.ensures.kept c.search.ensures.nodes c.define_all.ensures.towards.prefix

@@ -1,5 +1,5 @@
 use Rattle.std.proofs.Common.{◌≡◌, ◌<◌, ◌+◌, max, ◌^◌, ◌++◌, length, map, ap, ◌∙◌, arith}
-use Rattle.sat_log.specs.Kept.{original}
+use Rattle.sat_log.specs.Lines.{original}
 use Rattle.sat_link.specs.Encoding.{clauses_of}
 use Rattle.sat_link.specs.Contents.{KeepsClauses}
 use Rattle.sat_link.proofs.Keeping.{keeps_defined}

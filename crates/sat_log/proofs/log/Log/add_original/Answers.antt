@@ -4,7 +4,7 @@ use Rattle.sat_log.specs.Checking.{last_of}
 use Rattle.sat_log.specs.Marked.{HasRoomFor}
 use Rattle.sat_log.specs.Accepted.{IsOriginal}
 use Rattle.sat_log.proofs.LogLemmas.{keeps_push, keeps_room}
-use Rattle.sat_log.specs.Kept.{original}
+use Rattle.sat_log.specs.Lines.{original}
 use Rattle.sat_log.proofs.log.Log.add_original.Goals as goal
 
 pub invariant_of-self : goal.invariant_of-self

@@ -1,5 +1,5 @@
 use Rattle.std.proofs.Common.{◌≡◌, ◌++◌, map, take}
-use Rattle.sat_log.specs.Kept.{original}
+use Rattle.sat_log.specs.Lines.{original}
 use Rattle.sat_log.proofs.log.Log.add_originals.Given as goal
 
 abbrev pub invariant-loop-clause : goal.invariant-loop-clause

@@ -60,7 +60,7 @@ loop-self-preserved c =
     let below = entry_below entries e i entry_is in
     let grown : bottom (i + 1) new ≡ bottom (i + 1) entries = bottom_grown entries new (i + 1) c.walk.ensures.implied below in
     let s = c.self-in-loop-self.inside in
-    let same : record { watched = s.watches; ids = s.ids.items; looked = s.looked } ≡ c.walk.new.self = c.self-in-loop-self.view_is in
+    let same : record { watched = s.watches; lines = s.lines.items; looked = s.looked } ≡ c.walk.new.self = c.self-in-loop-self.view_is in
     let now_looked : s.looked ≡ i = ap (λ (p : Propagated). p.looked) same ∙ c.walk.ensures.looked in
     let part_is : bottom (s.looked + 1) new ≡ e ∷ bottom i entries = ap (λ (n : ℕ). bottom (n + 1) new) now_looked ∙ grown ∙ entry_is in
     record {
@@ -68,10 +68,10 @@ loop-self-preserved c =
         lists = omega (arith, kept.ready.lists, c.walk.ensures.variables, c.walk.ensures.lines.lists, ap (λ (p : Propagated). length p.watched.lists) same);
         standing = subst (AreStanding c.args.log.now) (sym same) c.walk.ensures.standing;
         within = omega (arith, below, now_looked, adds_longer entries new c.walk.ensures.implied);
-        rule = subst (λ (part : List Entry). KeepsRule part new (record { watched = s.watches; ids = s.ids.items; looked = s.looked })) (sym part_is) (subst (λ (p : Propagated). KeepsRule (e ∷ bottom i entries) new p) (sym same) more);
+        rule = subst (λ (part : List Entry). KeepsRule part new (record { watched = s.watches; lines = s.lines.items; looked = s.looked })) (sym part_is) (subst (λ (p : Propagated). KeepsRule (e ∷ bottom i entries) new p) (sym same) more);
       };
       trail = c.walk.ensures.trail;
       implied = adds_twice c.args.trail.now.entries entries new kept.implied c.walk.ensures.implied;
       variables = c.walk.ensures.variables ∙ kept.variables;
-      lines = subst (λ (p : Propagated). KeepsLines c.args.self.now (record { watched = p.watched; ids = p.ids; looked = s.looked + 1 })) (sym same) (lines_looked c.args.self.now c.walk.new.self (s.looked + 1) (lines_twice c.args.self.now c.loop-self.self c.walk.new.self kept.lines c.walk.ensures.lines));
+      lines = subst (λ (p : Propagated). KeepsLines c.args.self.now (record { watched = p.watched; lines = p.lines; looked = s.looked + 1 })) (sym same) (lines_looked c.args.self.now c.walk.new.self (s.looked + 1) (lines_twice c.args.self.now c.loop-self.self c.walk.new.self kept.lines c.walk.ensures.lines));
     }

@@ -1,4 +1,4 @@
-use Rattle.std.proofs.Common.{◌≤◌, length, reverse, subst, arith}
+use Rattle.std.proofs.Common.{◌≤◌, reverse, subst, arith}
 use Rattle.std.proofs.lemmas.List.{length-reverse}
 use Rattle.sat_trail.specs.Trail.{Trailed}
 use Rattle.sat_trail.proofs.Tables.{true_few}

@@ -9,8 +9,8 @@ use Rattle.sat_log.specs.Checking.{last_variable}
 use Rattle.sat_log.specs.declared.line.LineKind.TheVariants.{Original}
 use Rattle.sat_log.specs.declared.line.LogLine.{LogLine}
 
--- Each line may come after those before it, the marks are clear, with room for the lines, and the last
--- variable is the greatest one of the lines.
+-- Each line may come after those before it, the marks are clear, with room for the lines, and the
+-- last variable is the greatest one of the lines.
 pub record KeepsLog (lines : List LogLine) (marks : Marked) (last : ℕ) : Type 0 where
   pub log : IsLog lines
   pub clear : marks.set ≡ []
