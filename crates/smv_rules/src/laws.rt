@@ -27,10 +27,8 @@ pub fn reading_is_right()
 /// No branch of a case begins with `esac`: so behind a `;` the next token may tell a branch from the end.
 #[tactic(auto, using(crate::proofs::ClearPrograms::branch_no_end))]
 pub fn no_branch_begins_with_esac()
-    ensures {
-        (n : ℕ) (bs : Branches) (ts rest : List Token) (x : Branches) →
-        Follows plain n some_branches (branch bs) ts rest x → Unseen (key.mark marks.Esac) ts
-    }
+    ensures { (n : ℕ) (bs : Branches) (ts rest : List Token) (x : Branches) →
+        Follows plain n some_branches (branch bs) ts rest x → Unseen (key.mark marks.Esac) ts }
 {}
 
 /// A text spells at most one expression, at most one formula and at most one program.
