@@ -35,7 +35,7 @@ use Rattle.cmd_table.specs.declared.commands.TheConstants.{ECHO, HELP, QUIT, RES
 use Rattle.shell_world.specs.declared.phase.Phase.TheVariants.{Start}
 use Rattle.shell.specs.Echo.{Echoes, EchoesTo, echo_file, echoed}
 use Rattle.shell.specs.Lines.{DoesAny, DoesCommand, DoesGiven, DoesLine, DoesNamed, DoesScriptLines, DoesSource, DoesWords, LacksScript, Sourcing, Unless, given_script, script_limit}
-use Rattle.shell.specs.Refused.{BreaksFile, ChangesLittle, ChangesMore, RefusedAfter, RefusedInput, RefusedLine, RunsGiven, RunsScriptLines}
+use Rattle.shell.specs.Refused.{BreaksFile, ChangesLittle, ChangesMore, RefusedAfter, RefusedInput, RefusedLine, RunsGiven, RunsScriptLines, ShellMayChange}
 use Rattle.shell.specs.Rows.{command_of}
 use Rattle.shell.specs.Sessions.{DoesInput, DoesRecalled, nesting_limit, remembered}
 use Rattle.shell.specs.Topics.{HelpsLine, HelpsOn, HelpsWith, without_model}
@@ -131,7 +131,7 @@ named_little t depth (command.Shell own.Echo) words old events end new r p = ech
 named_little t depth (command.Shell own.Help) words old events end new r p = inl (row_leave still_fact HELP Start words (λ given. HelpsWith given.rest) (λ given. help_leaves given.rest) old events end new p).kept
 named_little t depth (command.Shell own.Quit) words old events end new r p = inl (row_leave still_fact QUIT Start words (λ given. Ends ends.Quits) (λ given. ends_leave still_fact ends.Quits refl) old events end new p).kept
 named_little t depth (command.Shell own.Reset) words old events end new r p =
-    guarded_refused (row_leave guards_fact RESET Start words (λ given. Becomes without_model) (λ given. becomes_guards without_model (λ s. refl))) old events end new r p
+    guarded_refused (ShellMayChange depth own.Reset words) (row_leave guards_fact RESET Start words (λ given. Becomes without_model) (λ given. becomes_guards without_model (λ s. refl))) old events end new r p
 named_little t depth (command.Shell own.Source) words old events end new r p = source_little depth words old events end new r p
 
 -- the same of a command of a line

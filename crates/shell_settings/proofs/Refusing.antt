@@ -73,7 +73,7 @@ settings_guard command.Unalias words = row_leave guards_fact UNALIAS Start words
 settings_guard command.Unset words = row_leave guards_fact UNSET Start words (λ given. WithFirst TakesBack given.rest) (λ given. first_leave guards_fact TakesBack given.rest (λ name. alters_guard _ _ _ (λ s. refl)))
 
 pub settings_refused : (c : SettingsCommand) (words : List (List ℕ)) → KeepsRefused (SettingsMayChange c words) (DoesSettings c words)
-settings_refused c words = guarded_refused (settings_guard c words)
+settings_refused c words = guarded_refused (SettingsMayChange c words) (settings_guard c words)
 
 pub settings_caused : (c : SettingsCommand) (words : List (List ℕ)) → Always (DoesSettings c words) IsCaused
 settings_caused c words = guarded_caused (settings_guard c words)

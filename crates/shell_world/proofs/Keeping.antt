@@ -121,8 +121,8 @@ caused_fact = record {
 }
 
 -- what a topic's law says of a refusal, and of causes
-pub guarded_refused : {May : Scene → Scene → Type 0} {P : Process} → Always P Guards → KeepsRefused May P
-guarded_refused g old events end new r p = inl ((g old events end new p).refused r)
+pub guarded_refused : (May : Scene → Scene → Type 0) {P : Process} → Always P Guards → KeepsRefused May P
+guarded_refused May g old events end new r p = inl ((g old events end new p).refused r)
 
 pub guarded_caused : {P : Process} → Always P Guards → Always P IsCaused
 guarded_caused g old events end new p = (g old events end new p).caused

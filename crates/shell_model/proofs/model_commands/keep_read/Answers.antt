@@ -5,7 +5,7 @@ use Rattle.shell_model.proofs.model_commands.keep_read.Goals as goal
 
 pub returns-in-Ok : goal.returns-in-Ok
 returns-in-Ok g c =
-    model_kept c.args.file.now c.args.model c.args.state.now _ (g.W.Outside.told c.args.world.now) (c.in-Ok.take_model.ensures ∙ ap (λ v. with_model c.args.model (record c.args.state.now { vars = v })) c.in-Ok.ensures.ok)
+    model_kept c.args.file.now c.args.model c.args.state.now _ (g.W.Outside.told c.args.world.now) (c.take_model.ensures ∙ ap (λ v. with_model c.args.model (record c.args.state.now { vars = v })) c.in-Ok.ensures.ok)
 
 pub returns-in-Err : goal.returns-in-Err
 returns-in-Err g c =
