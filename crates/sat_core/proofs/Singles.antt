@@ -1,10 +1,9 @@
 -- Clauses that have one literal at most.
-use Rattle.std.proofs.Common.{◌≡◌, ◌≢◌, ℕ, ◌<◌, inl, inr, List, [], ◌∷◌, length, get_or, refl, sym, subst, ◌∙◌, arith}
+use Rattle.std.proofs.Common.{◌≡◌, ◌≢◌, ℕ, ◌<◌, inl, inr, List, [], ◌∷◌, length, get_or, refl, sym, ◌∙◌, arith}
 use Rattle.std.specs.Prelude.{Some}
-use Rattle.sat_log.specs.Literal.{Literal, negated}
-use Rattle.sat_log.specs.Clause.{Among, IsFalsified}
+use Rattle.sat_log.specs.Literal.{Literal}
+use Rattle.sat_log.specs.Clause.{Among}
 use Rattle.sat_log.specs.Accepted.{clause_at}
-use Rattle.sat_log.specs.Learned.{IsTrueUnder}
 use Rattle.sat_log.specs.declared.line.LogLine.{LogLine}
 use Rattle.sat_trail.specs.Units.{IsReason}
 

@@ -1,4 +1,5 @@
-use Rattle.std.proofs.Common.{◌≡◌, sym, subst}
+use Rattle.std.proofs.Common.{◌≡◌, length, sym, subst}
+use Rattle.std.proofs.lemmas.Bool.{eqb-true}
 use Rattle.std.specs.Prelude.{Some}
 use Rattle.sat_log.specs.Accepted.{clause_at}
 use Rattle.sat_trail.proofs.Logs.{named_distinct, named_up_to}
@@ -25,7 +26,7 @@ returns-in-Some-2-clause-watched c =
     let old = c.args.propagation.now in
     let lits = c.in-Some.clause.now in
     let watches = subst (WatchesTwo old c.watch_two.new.propagation lits) c.in-Some-2.is c.in_ok-watcher.ensures.ok in
-    two_keeps_watched c.args.log.now c.args.trail.now old c.watch_two.new.propagation c.look_again.new.propagation c.serve.new.self lits c.in-Some-2.watcher c.args.id watches c.index-clause-0.result c.index-clause-1.result (c.index-clause-0.is, c.index-clause-1.is) c.look_again.ensures c.serve.ensures
+    two_keeps_watched c.args.log.now c.args.trail.now old c.watch_two.new.propagation c.look_again.new.propagation c.serve.new.self lits c.in-Some-2.watcher c.args.id _ watches c.index-clause-0.result c.index-clause-1.result (c.index-clause-0.is, c.index-clause-1.is) c.look_again.ensures c.serve.ensures
 
 pub returns-in-Some-2-clause-ready : goal.returns-in-Some-2-clause-ready
 returns-in-Some-2-clause-ready c =
@@ -34,7 +35,7 @@ returns-in-Some-2-clause-ready c =
     let log = c.args.log.now in
     let named : clause_at log c.args.id ≡ Some lits = sym c.in-Some.ensures in
     let watches = subst (WatchesTwo old c.watch_two.new.propagation lits) c.in-Some-2.is c.in_ok-watcher.ensures.ok in
-    two_ready log c.args.trail.now old c.watch_two.new.propagation c.look_again.new.propagation c.serve.new.self lits c.in-Some-2.watcher c.args.id watches c.index-clause-0.result c.index-clause-1.result (c.index-clause-0.is, c.index-clause-1.is) c.look_again.ensures c.serve.ensures c.requires.level named (named_distinct log c.args.id lits c.requires.log named) c.requires.ready
+    two_ready log c.args.trail.now old c.watch_two.new.propagation c.look_again.new.propagation c.serve.new.self lits c.in-Some-2.watcher c.args.id _ watches c.index-clause-0.result c.index-clause-1.result (c.index-clause-0.is, c.index-clause-1.is) c.look_again.ensures c.serve.ensures c.requires.level named (named_distinct log c.args.id lits c.requires.log named) (eqb-true (length lits) 2) c.requires.ready
 
 pub returns-in-None-2-clause-ready : goal.returns-in-None-2-clause-ready
 returns-in-None-2-clause-ready c =

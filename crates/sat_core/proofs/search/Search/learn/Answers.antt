@@ -1,4 +1,5 @@
 use Rattle.std.proofs.Common.{◌≡◌, ℕ, ◌+◌, ◌≤◌, List, ◌∷◌, [], ◌++◌, length, get_or, ap, sym, subst, ◌∙◌}
+use Rattle.std.proofs.lemmas.Bool.{eqb-true}
 use Rattle.std.proofs.lemmas.List.{append_cancel_left}
 use Rattle.std.specs.List.{AllByRecursion}
 use Rattle.sat_log.specs.Literal.{Literal}
@@ -95,7 +96,7 @@ invariant_of-self-2 c =
           c.imply.new.self c.imply.ensures.variables c.imply.ensures.entries,
       learned_clauses s.log log s.trail back s.analysis.state a jump id line l c.self.invariant.0 above c.analyze.ensures.state c.analyze.ensures.asserting c.analyze.ensures.size c.in_ok-line.ensures c.jump_level-level.ensures first c.in_ok-id.ensures.ok c.in_ok-id.ensures.id (jumped (goal.at.invariant_of-self-2 c).After-backjump) (as_many (goal.at.invariant_of-self-2 c).After-backjump)
           c.imply.new.self c.imply.ensures.variables c.imply.ensures.entries
-          s.propagation p c.backjump.new.self c.serve.new.propagation s.attached s.false_clause c.in_ok-watcher.watcher c.self.invariant.1 whole watches c.backjump.ensures.watched c.backjump.ensures.lines (λ r. c.backjump.ensures.ready log (subst (λ (t : Trailed). IsReady log t p) (sym c.prefer.ensures) r)) c.binary (λ e. e) c.serve.ensures,
+          s.propagation p c.backjump.new.self c.serve.new.propagation s.attached s.false_clause c.in_ok-watcher.watcher c.self.invariant.1 whole watches c.backjump.ensures.watched c.backjump.ensures.lines (λ r. c.backjump.ensures.ready log (subst (λ (t : Trailed). IsReady log t p) (sym c.prefer.ensures) r)) _ (λ e. sym c.len-binary.ensures ∙ eqb-true c.len-binary.result 2 e) c.serve.ensures,
     )
 
 pub returns-clause-ok : goal.returns-clause-ok
