@@ -122,7 +122,7 @@ source_little depth words old events end new r p = given_row (by_row SOURCE Star
     given_row (inr (given, o, q)) = by_script given o (given_script given) refl q
 
 -- a command changes nothing, or what it may
-pub named_little : TopicsKeep → (depth : ℕ) (c : Command) (words : List (List ℕ)) (old : Scene) (events : List Happening) (end : End) (new : Scene) → end ≡ ends.Refused → DoesNamed (Sourcing depth) c words old events end new → ChangesLittle depth c words old new
+pub named_little : TopicsKeep → (depth : ℕ) (c : Command) (words : List (List ℕ)) (old : Scene) (events : List Happening) (end : End) (new : Scene) → end ≡ ends.Refused → DoesNamed (Sourcing depth) c words old events end new → ChangesLittle depth c words old events new
 named_little t depth (command.Settings c) words old events end new r p = t.settings c words old events end new r p
 named_little t depth (command.Model c) words old events end new r p = t.model c words old events end new r p
 named_little t depth (command.Trace c) words old events end new r p = t.trace c words old events end new r p
@@ -140,12 +140,12 @@ unfolding Either ForSome Where Knowing
 command_kept t depth pieces old events end new r (inl (said, (number, p))) = inl (said_kept _ _ _ _ p)
 command_kept t depth pieces old events end new r (inr (answer, (is, p))) = by_answer answer is p
   where
-    changed : (word : List ℕ) (words : List (List ℕ)) (c : Command) → Expands old.state.vars old.state.aliases pieces (Ok (word ∷ words)) → command_of word ≡ Some c → ChangesLittle depth c words old new → IsKept old new ⊎ ChangesMore depth pieces old new
-    changed word words c x e (inl k) = inl k
-    changed word words c x e (inr k) = inr record { word = word; words = words; found = c; expands = x; called = e; changed = k }
+    changed : (word : List ℕ) (words : List (List ℕ)) (c : Command) → Expands old.state.vars old.state.aliases pieces (Ok (word ∷ words)) → command_of word ≡ Some c → DoesNamed (Sourcing depth) c words old events end new → ChangesLittle depth c words old events new → IsKept old new ⊎ ChangesMore depth pieces old new
+    changed word words c x e q (inl k) = inl k
+    changed word words c x e q (inr k) = inr record { word = word; words = words; found = c; events = events; expands = x; called = e; does = subst (λ z. DoesNamed (Sourcing depth) c words old events z new) r q; changed = k }
 
     by_found : (word : List ℕ) (words : List (List ℕ)) (found : Option Command) → Expands old.state.vars old.state.aliases pieces (Ok (word ∷ words)) → command_of word ≡ found → DoesAny (Sourcing depth) found word words old events end new → IsKept old new ⊎ ChangesMore depth pieces old new
-    by_found word words (Some c) x e q = changed word words c x e (named_little t depth c words old events end new r q)
+    by_found word words (Some c) x e q = changed word words c x e q (named_little t depth c words old events end new r q)
     by_found word words None x e q = inl (refusal_kept _ _ _ q)
 
     by_answer : (answer : Result (List (List ℕ)) LangFault) → Expands old.state.vars old.state.aliases pieces answer → DoesWords (Sourcing depth) answer old events end new → IsKept old new ⊎ ChangesMore depth pieces old new

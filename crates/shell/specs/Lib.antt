@@ -1,4 +1,5 @@
 pub mod Rows
+pub mod Called
 pub mod Echo
 pub mod Topics
 pub mod Lines

@@ -21,7 +21,7 @@ use Rattle.shell.specs.declared.topics.ShellCommand.{ShellCommand}
 use Rattle.shell.specs.declared.topics.ShellCommand.TheVariants as own
 use Rattle.cmd_table.specs.declared.commands.TheConstants.{ECHO, SOURCE}
 use Rattle.shell.specs.Echo.{echo_file, echoed}
-use Rattle.shell.specs.Lines.{DoesCommand, DoesLine, DoesScriptLines, Sourcing, given_script}
+use Rattle.shell.specs.Lines.{DoesCommand, DoesLine, DoesNamed, DoesScriptLines, Sourcing, given_script}
 use Rattle.shell.specs.Rows.{command_of}
 use Rattle.shell.specs.Sessions.{nesting_limit, remembered}
 
@@ -56,31 +56,33 @@ pub record RunsGiven (depth : ℕ) (words : List (List ℕ)) (old new : Scene) :
 
 -- what a refused command of the shell itself may have changed: `echo` a file, and `source` what its
 -- lines change; any other nothing
-abbrev pub ShellMayChange : ℕ → ShellCommand → List (List ℕ) → Scene → Scene → Type 0
-ShellMayChange depth own.Echo words old new = BreaksFile words old new
-ShellMayChange depth own.Source words old new = RunsGiven depth words old new
-ShellMayChange depth other words old new = ⊥
+abbrev pub ShellMayChange : ℕ → ShellCommand → List (List ℕ) → Scene → List Happening → Scene → Type 0
+ShellMayChange depth own.Echo words old events new = BreaksFile words old new
+ShellMayChange depth own.Source words old events new = RunsGiven depth words old new
+ShellMayChange depth other words old events new = ⊥
 
--- what a refused command may have changed, one case a topic
-abbrev pub MayChange : ℕ → Command → List (List ℕ) → Scene → Scene → Type 0
-MayChange depth (command.Settings c) words old new = SettingsMayChange c words old new
-MayChange depth (command.Model c) words old new = ModelMayChange c words old new
-MayChange depth (command.Trace c) words old new = TraceMayChange c words old new
-MayChange depth (command.Log c) words old new = LogMayChange c words old new
-MayChange depth (command.Shell c) words old new = ShellMayChange depth c words old new
+-- what a refused command may have changed where these events happened, one case a topic
+abbrev pub MayChange : ℕ → Command → List (List ℕ) → Scene → List Happening → Scene → Type 0
+MayChange depth (command.Settings c) words old events new = SettingsMayChange c words old events new
+MayChange depth (command.Model c) words old events new = ModelMayChange c words old events new
+MayChange depth (command.Trace c) words old events new = TraceMayChange c words old events new
+MayChange depth (command.Log c) words old events new = LogMayChange c words old events new
+MayChange depth (command.Shell c) words old events new = ShellMayChange depth c words old events new
 
 -- a refused command changed nothing, or what it may change
-abbrev pub ChangesLittle : ℕ → Command → List (List ℕ) → Scene → Scene → Type 0
-ChangesLittle depth c words old new = IsKept old new ⊎ MayChange depth c words old new
+abbrev pub ChangesLittle : ℕ → Command → List (List ℕ) → Scene → List Happening → Scene → Type 0
+ChangesLittle depth c words old events new = IsKept old new ⊎ MayChange depth c words old events new
 
 -- the same of a command of a line, with its variables and aliases replaced
 pub record ChangesMore (depth : ℕ) (pieces : List (List Piece)) (old new : Scene) : Type 0 where
   pub word : List ℕ
   pub words : List (List ℕ)
   pub found : Command
+  pub events : List Happening
   pub expands : Expands old.state.vars old.state.aliases pieces (Ok (word ∷ words))
   pub called : command_of word ≡ Some found
-  pub changed : MayChange depth found words old new
+  pub does : DoesNamed (Sourcing depth) found words old events ends.Refused new
+  pub changed : MayChange depth found words old events new
 
 -- a line's commands went well up to a refused one, and all is as they left it but for what that one may
 -- have changed

@@ -18,14 +18,6 @@ use Rattle.shell.specs.declared.rows.Command.TheVariants as command
 use Rattle.shell.specs.declared.topics.TheConstants.{SHELL_COMMANDS}
 use Rattle.shell.specs.Words.{shell_help, shell_word}
 
--- the word that a command is called by
-abbrev pub word_of : Command → List ℕ
-word_of (command.Settings c) = settings_word c
-word_of (command.Model c) = model_word c
-word_of (command.Trace c) = trace_word c
-word_of (command.Log c) = log_word c
-word_of (command.Shell c) = shell_word c
-
 -- the command as a user writes it
 abbrev pub help_of : Command → List ℕ
 help_of (command.Settings c) = settings_help c

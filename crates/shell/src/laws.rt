@@ -22,7 +22,7 @@ pub fn refused_line_changes_nothing()
     ensures command { (depth : ℕ) (c : Command) (words : List (List ℕ)) (old : Scene)
         (events : List Happening) (new : Scene) →
         DoesNamed (Sourcing depth) c words old events ends.Refused new →
-        ChangesLittle depth c words old new }
+        ChangesLittle depth c words old events new }
     ensures line { (depth : ℕ) (line : List ℕ) (old : Scene) (events : List Happening)
         (new : Scene) → DoesLine depth line old events ends.Refused new →
         RefusedLine depth line old new }

@@ -1,6 +1,7 @@
 ghost use Rattle.std.specs.Prelude.{◌≡◌, IfOk, Some};
 ghost use Rattle.shell.specs.declared.rows.Command.{Command};
-ghost use Rattle.shell.specs.Rows.{AreListed, command_of, word_of};
+ghost use Rattle.shell.specs.Called.{word_of};
+ghost use Rattle.shell.specs.Rows.{AreListed, command_of};
 
 use crate::topics::{SHELL_COMMANDS, ShellCommand};
 use outside::Text;
@@ -22,7 +23,8 @@ pub enum Command {
 }
 
 impl Listed for Command {
-    ghost use Rattle.shell.specs.Rows.{help_of, word_of};
+    ghost use Rattle.shell.specs.Called.{word_of};
+    ghost use Rattle.shell.specs.Rows.{help_of};
 
     ghost word = { word_of };
 

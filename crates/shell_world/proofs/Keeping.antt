@@ -121,7 +121,7 @@ caused_fact = record {
 }
 
 -- what a topic's law says of a refusal, and of causes
-pub guarded_refused : (May : Scene → Scene → Type 0) {P : Process} → Always P Guards → KeepsRefused May P
+pub guarded_refused : (May : Scene → List Happening → Scene → Type 0) {P : Process} → Always P Guards → KeepsRefused May P
 guarded_refused May g old events end new r p = inl ((g old events end new p).refused r)
 
 pub guarded_caused : {P : Process} → Always P Guards → Always P IsCaused

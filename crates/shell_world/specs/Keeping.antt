@@ -24,11 +24,11 @@ pub record IsKeptBut (name bytes : List ℕ) (old new : Scene) : Type 0 where
   pub input : new.input ≡ old.input
   pub held : BreaksOff name bytes old.disk.held new.disk.held
 
--- where a process ends refused, all is as before, or changed as it may be
-abbrev pub KeepsRefused : (Scene → Scene → Type 0) → Process → Type 0
+-- where a process ends refused, all is as before, or changed as it may be where these events happened
+abbrev pub KeepsRefused : (Scene → List Happening → Scene → Type 0) → Process → Type 0
 KeepsRefused MayChange P =
     (old : Scene) (events : List Happening) (end : End) (new : Scene) → end ≡ ends.Refused
-    → P old events end new → IsKept old new ⊎ MayChange old new
+    → P old events end new → IsKept old new ⊎ MayChange old events new
 
 -- a fault of the files or of the input is told
 abbrev pub tells_fault : Happening → Bool

@@ -16,7 +16,6 @@ use Rattle.shell_world.specs.declared.state.State.{State}
 use Rattle.shell_world.specs.declared.work.Work.{Work}
 use Rattle.trace_store.specs.Stored.{nothing_stored}
 
--- a session that was not told anything yet
 -- nothing is worked out of a model
 abbrev pub no_work : Work
 no_work = record {
@@ -29,6 +28,7 @@ no_work = record {
   gained = 0;
 }
 
+-- a session that was not told anything yet
 abbrev pub fresh : State
 fresh = record {
   vars = defaults;
