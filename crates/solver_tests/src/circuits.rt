@@ -198,30 +198,32 @@ fn all_pairs(
     Ok(())
 }
 
+/// The calls by their names.
+const CALLS: [(&str, Call); 19] = [
+    ("add", Call::Add),
+    ("sub", Call::Sub),
+    ("neg", Call::Neg),
+    ("mul", Call::Mul),
+    ("udiv", Call::Quotient),
+    ("urem", Call::Remainder),
+    ("sdiv", Call::SignedQuotient),
+    ("srem", Call::SignedRemainder),
+    ("shl", Call::ShiftUp),
+    ("shr", Call::ShiftDown),
+    ("signed shr", Call::SignedShiftDown),
+    ("ult", Call::Below),
+    ("slt", Call::SignedBelow),
+    ("eq", Call::Same),
+    ("mux", Call::Least),
+    ("select", Call::HighHalf),
+    ("concat", Call::Join),
+    ("extend", Call::Widened),
+    ("signed extend", Call::SignedWidened),
+];
+
 #[test]
 fn agrees_with_integers(rt: HostRuntime) -> Result<(), Fail> {
-    let calls = [
-        ("add", Call::Add),
-        ("sub", Call::Sub),
-        ("neg", Call::Neg),
-        ("mul", Call::Mul),
-        ("udiv", Call::Quotient),
-        ("urem", Call::Remainder),
-        ("sdiv", Call::SignedQuotient),
-        ("srem", Call::SignedRemainder),
-        ("shl", Call::ShiftUp),
-        ("shr", Call::ShiftDown),
-        ("signed shr", Call::SignedShiftDown),
-        ("ult", Call::Below),
-        ("slt", Call::SignedBelow),
-        ("eq", Call::Same),
-        ("mux", Call::Least),
-        ("select", Call::HighHalf),
-        ("concat", Call::Join),
-        ("extend", Call::Widened),
-        ("signed extend", Call::SignedWidened),
-    ];
-    for (name, call) in calls {
+    for (name, call) in CALLS {
         for width in 1..5 {
             all_pairs(&rt, rt.alloc(), name, call, width)?;
         }
@@ -246,52 +248,58 @@ fn answer(
     Ok((value(rt, alloc, &g, &answer, width, a, b)?, g.count()))
 }
 
+/// The greatest number of 64 bits.
+const MOST: u128 = u64::MAX as u128;
+
+/// Calls on wide operands: the width, the operands, and the answer.
+const WIDE: [(Call, usize, u128, u128, u128); 16] = [
+    (Call::SignedQuotient, 8, 128, 255, 128),
+    (Call::SignedRemainder, 8, 249, 5, 254),
+    (Call::Add, 64, MOST, 1, 0),
+    (Call::Add, 128, u128::MAX, 1, 0),
+    (Call::Mul, 64, MOST, MOST, 1),
+    (Call::Mul, 128, 1 << 64, 1 << 63, 1 << 127),
+    (Call::SignedQuotient, 128, 1 << 127, u128::MAX, 1 << 127),
+    (Call::SignedRemainder, 128, 1 << 127, u128::MAX, 0),
+    (Call::Quotient, 64, MOST, 10, 1844674407370955161),
+    (Call::Remainder, 64, MOST, 10, 5),
+    (Call::ShiftUp, 64, MOST, 64, 0),
+    (Call::ShiftUp, 128, 1, 127, 1 << 127),
+    (Call::ShiftDown, 128, u128::MAX, 127, 1),
+    (Call::SignedShiftDown, 128, 1 << 127, 128, u128::MAX),
+    (Call::SignedBelow, 64, 1 << 63, 0, 1),
+    (Call::Below, 128, u128::MAX - 1, u128::MAX, 1),
+];
+
 #[test]
 fn wide_operands(rt: HostRuntime) -> Result<(), Fail> {
-    let most = u64::MAX as u128;
-    let rows = [
-        (Call::SignedQuotient, 8, 128, 255, 128),
-        (Call::SignedRemainder, 8, 249, 5, 254),
-        (Call::Add, 64, most, 1, 0),
-        (Call::Add, 128, u128::MAX, 1, 0),
-        (Call::Mul, 64, most, most, 1),
-        (Call::Mul, 128, 1 << 64, 1 << 63, 1 << 127),
-        (Call::SignedQuotient, 128, 1 << 127, u128::MAX, 1 << 127),
-        (Call::SignedRemainder, 128, 1 << 127, u128::MAX, 0),
-        (Call::Quotient, 64, most, 10, 1844674407370955161),
-        (Call::Remainder, 64, most, 10, 5),
-        (Call::ShiftUp, 64, most, 64, 0),
-        (Call::ShiftUp, 128, 1, 127, 1 << 127),
-        (Call::ShiftDown, 128, u128::MAX, 127, 1),
-        (Call::SignedShiftDown, 128, 1 << 127, 128, u128::MAX),
-        (Call::SignedBelow, 64, 1 << 63, 0, 1),
-        (Call::Below, 128, u128::MAX - 1, u128::MAX, 1),
-    ];
-    for (call, width, a, b, wanted) in rows {
+    for (call, width, a, b, wanted) in WIDE {
         let (got, _) = answer(&rt, rt.alloc(), call, width, a, b)?;
         assert!(rt; got == wanted, "{wanted} at width {width}, and not {got}");
     }
     Ok(())
 }
 
+/// How many gates each call has at the widths 8, 16, 32 and 64.
+const COUNTS: [(&str, Call, [u64; 4]); 13] = [
+    ("add", Call::Add, [52, 108, 220, 444]),
+    ("sub", Call::Sub, [53, 109, 221, 445]),
+    ("neg", Call::Neg, [21, 45, 93, 189]),
+    ("mul", Call::Mul, [204, 916, 3876, 15940]),
+    ("udiv_rem", Call::Quotient, [349, 1341, 5245, 20733]),
+    ("sdiv_rem", Call::SignedQuotient, [528, 1712, 6000, 22256]),
+    ("shl", Call::ShiftUp, [66, 178, 450, 1090]),
+    ("shr", Call::ShiftDown, [66, 178, 450, 1090]),
+    ("signed shr", Call::SignedShiftDown, [84, 213, 518, 1223]),
+    ("ult", Call::Below, [39, 79, 159, 319]),
+    ("slt", Call::SignedBelow, [39, 79, 159, 319]),
+    ("eq", Call::Same, [31, 63, 127, 255]),
+    ("ult and mux", Call::Least, [63, 127, 255, 511]),
+];
+
 #[test]
 fn gates_of_each_call(rt: HostRuntime) -> Result<(), Fail> {
-    let rows = [
-        ("add", Call::Add, [52, 108, 220, 444]),
-        ("sub", Call::Sub, [53, 109, 221, 445]),
-        ("neg", Call::Neg, [21, 45, 93, 189]),
-        ("mul", Call::Mul, [204, 916, 3876, 15940]),
-        ("udiv_rem", Call::Quotient, [349, 1341, 5245, 20733]),
-        ("sdiv_rem", Call::SignedQuotient, [528, 1712, 6000, 22256]),
-        ("shl", Call::ShiftUp, [66, 178, 450, 1090]),
-        ("shr", Call::ShiftDown, [66, 178, 450, 1090]),
-        ("signed shr", Call::SignedShiftDown, [84, 213, 518, 1223]),
-        ("ult", Call::Below, [39, 79, 159, 319]),
-        ("slt", Call::SignedBelow, [39, 79, 159, 319]),
-        ("eq", Call::Same, [31, 63, 127, 255]),
-        ("ult and mux", Call::Least, [63, 127, 255, 511]),
-    ];
-    for (name, call, counts) in rows {
+    for (name, call, counts) in COUNTS {
         for (width, wanted) in [8, 16, 32, 64].into_iter().zip(counts) {
             let (_, got) = answer(&rt, rt.alloc(), call, width, 0, 1)?;
             assert!(rt; got == wanted, "{name}: {got} gates at width {width}");

@@ -6,7 +6,11 @@ mod circuits;
 #[cfg(test)]
 mod conjunctions;
 #[cfg(test)]
+mod logs;
+#[cfg(test)]
 mod questions;
+#[cfg(test)]
+mod scale;
 #[cfg(test)]
 mod searches;
 #[cfg(test)]

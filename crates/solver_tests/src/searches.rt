@@ -1,4 +1,6 @@
-ghost use Rattle.std.specs.Prelude.{◌≡◌, ◌≤◌, ◌^◌, ◌<◌, IfOk};
+ghost use Rattle.std.specs.Prelude.{◌≡◌, ◌≢◌, [], IfOk};
+ghost use Rattle.sat_log.specs.Clause.{HasDistinctVariables};
+ghost use Rattle.sat_log.specs.Checking.{IsUpTo};
 
 use sat_core::{Budget, Solver, Verdict};
 use sat_log::{LineKind, SLit, SLits};
@@ -14,12 +16,30 @@ fn literal(rt: &impl Abort, number: i32) -> SLit {
 }
 
 /// A solver with so many variables.
-fn solver(alloc: Global, variables: u64) -> Result<Solver, AllocError> {
+pub(crate) fn solver(alloc: Global, variables: u64) -> Result<Solver, AllocError> {
     let mut s = Solver::new(alloc)?;
     for _ in 0..variables {
         let _var = s.new_var()?;
     }
     Ok(s)
+}
+
+/// A clause of two literals, of which the second has the greater variable, up to this one.
+pub(crate) fn pair(
+    rt: &impl Abort,
+    alloc: Global,
+    a: i32,
+    b: i32,
+    variables: u64,
+) -> Result<SLits, AllocError>
+    ensures nonempty { IfOk result (λ c. c ≢ []) }
+    ensures distinct { IfOk result HasDistinctVariables }
+    ensures exist { IfOk result (IsUpTo variables) }
+{
+    let (first, second) = (literal(rt, a), literal(rt, b));
+    assert!(rt; first.var() < second.var());
+    assert!(rt; second.var() <= variables);
+    SLits::from_slice(alloc, &[first, second])
 }
 
 /// Adds clauses of two literals each.
@@ -30,11 +50,7 @@ fn add(
     clauses: &[(i32, i32)],
 ) -> Result<(), AllocError> {
     for &(a, b) in clauses {
-        let first = literal(rt, a);
-        let second = literal(rt, b);
-        assert!(rt; first.var() < second.var());
-        assert!(rt; second.var() <= s.variables());
-        let _id = s.add_clause(&SLits::from_slice(alloc, &[first, second])?)?;
+        let _id = s.add_clause(&pair(rt, alloc, a, b, s.variables())?)?;
     }
     Ok(())
 }
@@ -53,14 +69,14 @@ fn ask(
 }
 
 /// Whether the last line is of this kind and has these literals.
-fn ends_with(s: &Solver, kind: LineKind, clause: &[SLit]) -> bool {
+pub(crate) fn ends_with(s: &Solver, kind: LineKind, clause: &[SLit]) -> bool {
     match s.log().line(s.log().count()) {
         Some(line) => line.kind == kind && line.lits.as_slice() == clause,
         None => false,
     }
 }
 
-/// Three pigeons in two holes: variables 1 and 2 say where the first one sits, 3 and 4 the second one, 5 and 6 the third.
+/// Three pigeons in two holes: variables 1 and 2 say where the first one sits, and so on.
 const PIGEONS: [(i32, i32); 9] = [
     (1, 2),
     (3, 4),
@@ -134,5 +150,28 @@ fn learns_more_than_the_choices(rt: HostRuntime) -> Result<(), Fail> {
     assert!(rt; ends_with(&s, LineKind::Final, &[literal(&rt, -1)]));
     let yes = ask(&rt, alloc, &mut s, -1, Budget::Of(1))?;
     assert!(rt; matches!(yes, Verdict::Yes(_)));
+    Ok(())
+}
+
+/// The values of two variables, by a question that wants these literals.
+fn values(s: &mut Solver, want: &SLits) -> Result<Option<(bool, bool)>, AllocError>
+    requires exist { IsUpTo s.old.variables want.now }
+    requires distinct { HasDistinctVariables want.now }
+    ensures { s.new.variables ≡ s.old.variables }
+{
+    match s.solve(want, Budget::Unset)? {
+        Verdict::Yes(bits) if s.variables() >= 2 => Ok(Some((bits.value(1), bits.value(2)))),
+        _ => Ok(None),
+    }
+}
+
+#[test]
+fn keeps_the_values_of_the_last_question(rt: HostRuntime) -> Result<(), Fail> {
+    let alloc = rt.alloc();
+    let mut s = solver(alloc, 2)?;
+    assert!(rt; s.variables() == 2);
+    s.add_clauses(vec![in alloc; pair(&rt, alloc, 1, 2, 2)?]?.as_slice())?;
+    assert!(rt; values(&mut s, &pair(&rt, alloc, 1, -2, 2)?)? == Some((true, false)));
+    assert!(rt; values(&mut s, &SLits::new(alloc))? == Some((true, false)));
     Ok(())
 }

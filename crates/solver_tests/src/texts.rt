@@ -1,9 +1,4 @@
-ghost use Rattle.std.specs.Prelude.{◌≡◌, IfOk};
-ghost use Rattle.sat_log.specs.Checking.{IsUpTo};
-ghost use Rattle.sat_log.specs.declared.line.LineKind.TheVariants.{Conflict};
-
 use outside::{MemSink, Text, put_numbered};
-use sat_log::{Ids, LineKind, LogLine, Marks, SLit, SLits, accepts};
 use sat_log_text::{read_text, text_len, write_text};
 use std::alloc::{AllocError, Global};
 use std::test::Fail;
@@ -29,24 +24,91 @@ fn outcome(alloc: Global, text: &[u8]) -> Result<Text, AllocError> {
     Text::from_slice(alloc, out.bytes())
 }
 
+/// Texts of logs, one in a row, in which `/` stands for the end of a line.
+const LOGS: &str = "\
+log 1/end 0/
+log 1/1 o 1 2 0/2 o 1 -2 0/3 c 1 0 1 2 0/end 3/
+log 1/1 o 1 0/2 o -1 0/3 c 0 1 2 0/end 3/
+log 1/1 o 1 0/2 o -1 0/3 f 0 1 2 0/end 3/
+log 1/1 o 1 0/2 o -1 2 0/3 f 2 0 1 2 0/4 c 2 0 1 2 0/end 4/
+log 1/1 o 5 4 3 2 1 -6 0/end 1/
+log 1/1 o 9223372036854775807 0/2 o -9223372036854775807 0/3 c 0 2 1 0/end 3/
+log 1/1 o 70000 -80000 0/2 o 80000 3 0/3 c 3 70000 0 1 2 0/end 3/";
+
+/// Texts that are none, each with its fault.
+const FAULTS: &str = "\
+log 1/1 o 1 2 0/2 o 1 -2 0/3 c 1 0 1 0/end 3/ => 504: clause 3 is not accepted
+log 1/1 o 1 2 0/2 o 1 -2 0/3 c 1 0 1 2 0/ => 505: the log ends too early
+log 1/1 o 1 0/2 o -1 0/3 c 0 1 2 1 0/end 3/ => 504: clause 3 is not accepted
+log 1/1 o 1 0/2 o -1 0/3 c 0 1 2/end 3/ => 502: line 4: missing 0
+log 1/1 o 1 0/2 o -1 0/3 c 0 3 0/end 3/ => 503: line 4: hint to no earlier clause
+log 1/1 o 1 0/2 o -1 0/3 q 0 1 2 0/end 3/ => 501: line 4: bad number or word
+ => 501: line 1: bad number or word
+log 2/end 0/ => 501: line 1: bad number or word
+log 1 /end 0/ => 501: line 1: bad number or word
+log 1\r/end 0\r/ => 501: line 1: bad number or word
+log 1 => 505: the log ends too early
+log 1/1 o 1 0/end 2/ => 505: the log ends too early
+log 1/1 o 1 0/end 2/more/ => 505: the log ends too early
+log 1/1 o 1 0/end 1// => 501: line 4: bad number or word
+log 1/1 o 1 0/end 1/2 o 1 0/ => 501: line 4: bad number or word
+log 1/1 o 1 0/end 1 / => 501: line 3: bad number or word
+log 1/1 o 1 0/end 01/ => 501: line 3: bad number or word
+log 1/1 o 1 0/end/ => 501: line 3: bad number or word
+log 1//end 0/ => 501: line 2: bad number or word
+log 1/1/end 1/ => 501: line 2: bad number or word
+log 1/2 o 1 0/end 1/ => 501: line 2: bad number or word
+log 1/01 o 1 0/end 1/ => 501: line 2: bad number or word
+log 1/1 o 1 0/1 o 2 0/end 2/ => 501: line 3: bad number or word
+log 1/1 oo 1 0/end 1/ => 501: line 2: bad number or word
+log 1/1 o/end 1/ => 502: line 2: missing 0
+log 1/1 o 1/end 1/ => 502: line 2: missing 0
+log 1/1 o 1 0/2 c 1 0/end 2/ => 502: line 3: missing 0
+log 1/1 o 1 x/end 1/ => 501: line 2: bad number or word
+log 1/1 o 1  0/end 1/ => 501: line 2: bad number or word
+log 1/1 o 1 0 /end 1/ => 501: line 2: bad number or word
+log 1/1 o 1 0 0/end 1/ => 501: line 2: bad number or word
+log 1/1 o 1 0/2 c 0 1 0 0/end 2/ => 501: line 3: bad number or word
+log 1/1 o 0/end 1/ => 504: clause 1 is not accepted
+log 1/1 o 1 1 0/end 1/ => 504: clause 1 is not accepted
+log 1/1 o 1 -1 0/end 1/ => 504: clause 1 is not accepted
+log 1/1 o 1 0/2 c 1 0 0/end 2/ => 504: clause 2 is not accepted
+log 1/1 o 1 0/2 o -1 0/3 c 0 2 1 2 0/end 3/ => 504: clause 3 is not accepted
+log 1/1 o 1 0/2 o -1 0/3 f 0 1 2 0/4 c 0 3 0/end 4/ => 503: line 5: hint to no earlier clause
+log 1/1 o -0 0/end 1/ => 501: line 2: bad number or word
+log 1/1 o 01 0/end 1/ => 501: line 2: bad number or word
+log 1/1 o -01 0/end 1/ => 501: line 2: bad number or word
+log 1/1 o 9223372036854775808 0/end 1/ => 501: line 2: bad number or word
+log 1/1 o -9223372036854775808 0/end 1/ => 501: line 2: bad number or word
+log 1/1 o 1 0/2 c 0 9223372036854775807 0/end 2/ => 503: line 3: hint to no earlier clause
+log 1/1 o 1 0/2 c 0 9223372036854775808 0/end 2/ => 501: line 3: bad number or word
+log 1/1 o 1 0/2 c 0 -1 0/end 2/ => 501: line 3: bad number or word
+log 1/1 o 1 0/end 9223372036854775807/ => 505: the log ends too early
+log 1/1 o 1 0/end 9223372036854775808/ => 501: line 3: bad number or word";
+
+/// The text of a row.
+fn text_of(alloc: Global, row: &str) -> Result<Vec<u8>, AllocError> {
+    row.bytes()
+        .map(|byte| if byte == b'/' { b'\n' } else { byte })
+        .collect(alloc)
+}
+
 #[test]
 fn reads_logs_and_writes_them_again(rt: HostRuntime) -> Result<(), AllocError> {
     let alloc = rt.alloc();
-    let rows = [
-        "log 1\nend 0\n",
-        "log 1\n1 o 1 2 0\n2 o 1 -2 0\n3 c 1 0 1 2 0\nend 3\n",
-        "log 1\n1 o 1 0\n2 o -1 0\n3 c 0 1 2 0\nend 3\n",
-        "log 1\n1 o 1 0\n2 o -1 0\n3 f 0 1 2 0\nend 3\n",
-        "log 1\n1 o 1 0\n2 o -1 2 0\n3 f 2 0 1 2 0\n4 c 2 0 1 2 0\nend 4\n",
-        "log 1\n1 o 5 4 3 2 1 -6 0\nend 1\n",
-        "log 1\n1 o 9223372036854775807 0\n2 o -9223372036854775807 0\n3 c 0 2 1 0\nend 3\n",
-        "log 1\n1 o 70000 -80000 0\n2 o 80000 3 0\n3 c 3 70000 0 1 2 0\nend 3\n",
-    ];
-    for text in rows {
-        let text = text.as_bytes();
-        assert_eq!(rt; outcome(alloc, text)?.as_slice(), text, "at {text:?}");
-        let (front, _) = text.split_at(text.len().saturating_sub(1));
-        assert_eq!(rt; outcome(alloc, front)?.as_slice(), text, "at {front:?}");
+    for row in LOGS.lines() {
+        let text = text_of(alloc, row)?;
+        assert_eq!(rt;
+            outcome(alloc, text.as_slice())?.as_slice(),
+            text.as_slice(),
+            "at {row}"
+        );
+        let front = text_of(alloc, row.strip_suffix('/').unwrap_or(row))?;
+        assert_eq!(rt;
+            outcome(alloc, front.as_slice())?.as_slice(),
+            text.as_slice(),
+            "at {row}"
+        );
     }
     Ok(())
 }
@@ -54,208 +116,10 @@ fn reads_logs_and_writes_them_again(rt: HostRuntime) -> Result<(), AllocError> {
 #[test]
 fn names_the_first_fault(rt: HostRuntime) -> Result<(), AllocError> {
     let alloc = rt.alloc();
-    let rows = [
-        (
-            "log 1\n1 o 1 2 0\n2 o 1 -2 0\n3 c 1 0 1 0\nend 3\n",
-            "504: clause 3 is not accepted",
-        ),
-        (
-            "log 1\n1 o 1 2 0\n2 o 1 -2 0\n3 c 1 0 1 2 0\n",
-            "505: the log ends too early",
-        ),
-        (
-            "log 1\n1 o 1 0\n2 o -1 0\n3 c 0 1 2 1 0\nend 3\n",
-            "504: clause 3 is not accepted",
-        ),
-        (
-            "log 1\n1 o 1 0\n2 o -1 0\n3 c 0 1 2\nend 3\n",
-            "502: line 4: missing 0",
-        ),
-        (
-            "log 1\n1 o 1 0\n2 o -1 0\n3 c 0 3 0\nend 3\n",
-            "503: line 4: hint to no earlier clause",
-        ),
-        (
-            "log 1\n1 o 1 0\n2 o -1 0\n3 q 0 1 2 0\nend 3\n",
-            "501: line 4: bad number or word",
-        ),
-        // the first line of all, and the last
-        ("", "501: line 1: bad number or word"),
-        ("log 2\nend 0\n", "501: line 1: bad number or word"),
-        ("log 1 \nend 0\n", "501: line 1: bad number or word"),
-        ("log 1\r\nend 0\r\n", "501: line 1: bad number or word"),
-        ("log 1", "505: the log ends too early"),
-        ("log 1\n1 o 1 0\nend 2\n", "505: the log ends too early"),
-        (
-            "log 1\n1 o 1 0\nend 2\nmore\n",
-            "505: the log ends too early",
-        ),
-        (
-            "log 1\n1 o 1 0\nend 1\n\n",
-            "501: line 4: bad number or word",
-        ),
-        (
-            "log 1\n1 o 1 0\nend 1\n2 o 1 0\n",
-            "501: line 4: bad number or word",
-        ),
-        (
-            "log 1\n1 o 1 0\nend 1 \n",
-            "501: line 3: bad number or word",
-        ),
-        (
-            "log 1\n1 o 1 0\nend 01\n",
-            "501: line 3: bad number or word",
-        ),
-        ("log 1\n1 o 1 0\nend\n", "501: line 3: bad number or word"),
-        // ids and letters
-        ("log 1\n\nend 0\n", "501: line 2: bad number or word"),
-        ("log 1\n1\nend 1\n", "501: line 2: bad number or word"),
-        ("log 1\n2 o 1 0\nend 1\n", "501: line 2: bad number or word"),
-        (
-            "log 1\n01 o 1 0\nend 1\n",
-            "501: line 2: bad number or word",
-        ),
-        (
-            "log 1\n1 o 1 0\n1 o 2 0\nend 2\n",
-            "501: line 3: bad number or word",
-        ),
-        (
-            "log 1\n1 oo 1 0\nend 1\n",
-            "501: line 2: bad number or word",
-        ),
-        // lists
-        ("log 1\n1 o\nend 1\n", "502: line 2: missing 0"),
-        ("log 1\n1 o 1\nend 1\n", "502: line 2: missing 0"),
-        ("log 1\n1 o 1 0\n2 c 1 0\nend 2\n", "502: line 3: missing 0"),
-        ("log 1\n1 o 1 x\nend 1\n", "501: line 2: bad number or word"),
-        (
-            "log 1\n1 o 1  0\nend 1\n",
-            "501: line 2: bad number or word",
-        ),
-        (
-            "log 1\n1 o 1 0 \nend 1\n",
-            "501: line 2: bad number or word",
-        ),
-        (
-            "log 1\n1 o 1 0 0\nend 1\n",
-            "501: line 2: bad number or word",
-        ),
-        (
-            "log 1\n1 o 1 0\n2 c 0 1 0 0\nend 2\n",
-            "501: line 3: bad number or word",
-        ),
-        // clauses
-        ("log 1\n1 o 0\nend 1\n", "504: clause 1 is not accepted"),
-        ("log 1\n1 o 1 1 0\nend 1\n", "504: clause 1 is not accepted"),
-        (
-            "log 1\n1 o 1 -1 0\nend 1\n",
-            "504: clause 1 is not accepted",
-        ),
-        (
-            "log 1\n1 o 1 0\n2 c 1 0 0\nend 2\n",
-            "504: clause 2 is not accepted",
-        ),
-        (
-            "log 1\n1 o 1 0\n2 o -1 0\n3 c 0 2 1 2 0\nend 3\n",
-            "504: clause 3 is not accepted",
-        ),
-        (
-            "log 1\n1 o 1 0\n2 o -1 0\n3 f 0 1 2 0\n4 c 0 3 0\nend 4\n",
-            "503: line 5: hint to no earlier clause",
-        ),
-    ];
-    for (text, fault) in rows {
-        assert_eq!(rt;
-            outcome(alloc, text.as_bytes())?.as_slice(),
-            fault.as_bytes(),
-            "at {text}"
-        );
+    for row in FAULTS.lines() {
+        let (text, fault) = row.split_once(" => ").unwrap_or((row, ""));
+        let said = outcome(alloc, text_of(alloc, text)?.as_slice())?;
+        assert_eq!(rt; said.as_slice(), fault.as_bytes(), "at {row}");
     }
-    Ok(())
-}
-
-#[test]
-fn bounds_its_numbers(rt: HostRuntime) -> Result<(), AllocError> {
-    let alloc = rt.alloc();
-    let rows = [
-        (
-            "log 1\n1 o -0 0\nend 1\n",
-            "501: line 2: bad number or word",
-        ),
-        (
-            "log 1\n1 o 01 0\nend 1\n",
-            "501: line 2: bad number or word",
-        ),
-        (
-            "log 1\n1 o -01 0\nend 1\n",
-            "501: line 2: bad number or word",
-        ),
-        (
-            "log 1\n1 o 9223372036854775808 0\nend 1\n",
-            "501: line 2: bad number or word",
-        ),
-        (
-            "log 1\n1 o -9223372036854775808 0\nend 1\n",
-            "501: line 2: bad number or word",
-        ),
-        (
-            "log 1\n1 o 1 0\n2 c 0 9223372036854775807 0\nend 2\n",
-            "503: line 3: hint to no earlier clause",
-        ),
-        (
-            "log 1\n1 o 1 0\n2 c 0 9223372036854775808 0\nend 2\n",
-            "501: line 3: bad number or word",
-        ),
-        (
-            "log 1\n1 o 1 0\n2 c 0 -1 0\nend 2\n",
-            "501: line 3: bad number or word",
-        ),
-        (
-            "log 1\n1 o 1 0\nend 9223372036854775807\n",
-            "505: the log ends too early",
-        ),
-        (
-            "log 1\n1 o 1 0\nend 9223372036854775808\n",
-            "501: line 3: bad number or word",
-        ),
-    ];
-    for (text, fault) in rows {
-        assert_eq!(rt;
-            outcome(alloc, text.as_bytes())?.as_slice(),
-            fault.as_bytes(),
-            "at {text}"
-        );
-    }
-    Ok(())
-}
-
-/// The conflict line of the literal 2 with these two hints.
-fn unit(alloc: Global, first: u64, second: u64) -> Result<LogLine, AllocError>
-    ensures kind { IfOk result (λ line. line.kind ≡ Conflict) }
-    ensures last { IfOk result (λ line. IsUpTo 2 line.lits) }
-{
-    Ok(LogLine {
-        kind: LineKind::Conflict,
-        lits: SLits::from_slice(alloc, &[SLit::new(2, false)])?,
-        hints: Ids::from_slice(alloc, &[first, second])?.copy(alloc)?,
-    })
-}
-
-#[test]
-fn takes_what_it_accepts(rt: HostRuntime) -> Result<(), Fail> {
-    let alloc = rt.alloc();
-    let text = "log 1\n1 o 1 2 0\n2 o -1 0\nend 2\n";
-    let mut log = read_text(alloc, text.as_bytes())?;
-    assert_eq!(rt; log.variables(), 2);
-    let mut marks = Marks::new(alloc, 2)?;
-    assert!(rt; !accepts(&log, &unit(alloc, 1, 1)?, &mut marks));
-    assert!(rt; accepts(&log, &unit(alloc, 2, 1)?, &mut marks));
-    assert!(rt; log.append(unit(alloc, 1, 1)?).is_err());
-    assert!(rt; log.append(unit(alloc, 2, 1)?).is_ok());
-    assert_eq!(rt; log.count(), 3);
-    assert_eq!(rt; log.count_originals(), 2);
-    assert_eq!(rt; text_len(&log), 45);
-    assert!(rt; log.line(3).is_some());
-    assert!(rt; log.line(4).is_none());
     Ok(())
 }
