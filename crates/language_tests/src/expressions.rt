@@ -1,3 +1,4 @@
+use crate::texts::{repeated, seen};
 use smv_parse::parse_expr;
 use std::alloc::{AllocError, Global};
 use std::test::Fail;
@@ -6,10 +7,7 @@ use std::test::Fail;
 fn fault(alloc: Global, text: &[u8]) -> (u32, u32, u32) {
     match parse_expr(alloc, text) {
         Ok(_) => (0, 0, 0),
-        Err(fault) => match fault.place() {
-            Some(place) => (fault.number(), place.line, place.column),
-            None => (fault.number(), 0, 0),
-        },
+        Err(fault) => seen(fault),
     }
 }
 
@@ -102,20 +100,6 @@ fn expressions_have_their_faults(rt: HostRuntime) -> Result<(), Fail> {
         assert_eq!(rt; fault(rt.alloc(), text), seen);
     }
     Ok(())
-}
-
-/// So many times some bytes, and then others.
-fn repeated(alloc: Global, part: &[u8], count: usize, end: &[u8]) -> Result<Vec<u8>, AllocError> {
-    let mut text = Vec::new(alloc);
-    for _i in 0..count {
-        for byte in part {
-            text.push(*byte)?;
-        }
-    }
-    for byte in end {
-        text.push(*byte)?;
-    }
-    Ok(text)
 }
 
 #[test]

@@ -1,15 +1,13 @@
+use crate::texts::{repeated, seen};
 use smv_parse::parse_formula;
-use std::alloc::{AllocError, Global};
+use std::alloc::Global;
 use std::test::Fail;
 
 /// The number and the place of the fault of a formula, or zeros.
 fn fault(alloc: Global, text: &[u8]) -> (u32, u32, u32) {
     match parse_formula(alloc, text) {
         Ok(_) => (0, 0, 0),
-        Err(fault) => match fault.place() {
-            Some(place) => (fault.number(), place.line, place.column),
-            None => (fault.number(), 0, 0),
-        },
+        Err(fault) => seen(fault),
     }
 }
 
@@ -56,20 +54,6 @@ fn formulas_have_their_faults(rt: HostRuntime) -> Result<(), Fail> {
         assert_eq!(rt; fault(rt.alloc(), text), seen);
     }
     Ok(())
-}
-
-/// So many times some bytes, and then others.
-fn repeated(alloc: Global, part: &[u8], count: usize, end: &[u8]) -> Result<Vec<u8>, AllocError> {
-    let mut text = Vec::new(alloc);
-    for _i in 0..count {
-        for byte in part {
-            text.push(*byte)?;
-        }
-    }
-    for byte in end {
-        text.push(*byte)?;
-    }
-    Ok(text)
 }
 
 #[test]

@@ -13,3 +13,5 @@ mod program_faults;
 mod programs;
 #[cfg(test)]
 mod tables;
+#[cfg(test)]
+mod texts;

@@ -1,3 +1,4 @@
+use crate::texts::seen;
 use smv_parse::parse_model;
 use std::alloc::Global;
 use std::test::Fail;
@@ -9,10 +10,7 @@ fn fault(alloc: Global, text: &[u8]) -> (u32, u32, u32) {
     }
     match parse_model(alloc, text) {
         Ok(_) => (0, 0, 0),
-        Err(fault) => match fault.place() {
-            Some(place) => (fault.number(), place.line, place.column),
-            None => (fault.number(), 0, 0),
-        },
+        Err(fault) => seen(fault),
     }
 }
 

@@ -1,5 +1,5 @@
 -- The tables of expressions: functions and operators with their levels, and what numbers stand as.
-use Rattle.std.specs.Prelude.{◌-◌, ◌||◌, ◌==◌, min, ℕ, ℤ, pos, neg_ℤ, Bool, true, false, List, [], ◌∷◌, Option, Some, None, if◌then◌else◌}
+use Rattle.std.specs.Prelude.{min, ℕ, ℤ, pos, neg_ℤ, Bool, true, false, List, [], ◌∷◌, Option, Some, None, if◌then◌else◌}
 use Rattle.smv_tree.specs.declared.expr.Op1.{Op1}
 use Rattle.smv_tree.specs.declared.expr.Op1.TheVariants as op1
 use Rattle.smv_tree.specs.declared.expr.Op2.{Op2}
@@ -9,10 +9,6 @@ use Rattle.smv_token.specs.declared.mark.Mark.TheVariants as marks
 use Rattle.smv_token.specs.declared.token.Token.{Token}
 use Rattle.smv_token.specs.declared.token.Lexeme.{Lexeme}
 use Rattle.smv_token.specs.declared.token.Lexeme.TheVariants as lexeme
-
--- the loosest level
-abbrev pub loosest : ℕ
-loosest = 15
 
 -- how many nestings may be open, and how deep an expression may be
 abbrev pub deepest : ℕ
@@ -59,24 +55,6 @@ infix_of marks.Xor = Some (12, op2.Xor)
 infix_of marks.Xnor = Some (12, op2.Xnor)
 infix_of marks.Iff = Some (14, op2.Iff)
 infix_of m = None
-
--- the level of an operator, or 0 where there is none
-abbrev pub level_of : {X : Type 0} → Option (ℕ × X) → ℕ
-level_of None = 0
-level_of (Some x) = x.0
-
--- the level of the operator of two operands that a mark is, or 0
-abbrev pub operator_level : Mark → ℕ
-operator_level marks.Arrow = 15
-operator_level m = level_of (infix_of m)
-
--- the levels whose operators group to the right
-abbrev pub to_right : ℕ → Bool
-to_right l = l == 13 || l == 15
-
--- the level of what stands to the left of an operator of a level
-abbrev pub left_level : ℕ → ℕ
-left_level l = if to_right l then l - 1 else l
 
 abbrev pub is_number : Lexeme → Bool
 is_number (lexeme.Number n) = true

@@ -1,5 +1,5 @@
 -- The tables of formulas: what an operand begins with, and the operators with their levels.
-use Rattle.std.specs.Prelude.{◌-◌, ◌==◌, ℕ, zero, suc, Bool, true, false, List, [], ◌∷◌, Option, Some, None, if◌then◌else◌}
+use Rattle.std.specs.Prelude.{ℕ, zero, suc, Bool, true, false, List, [], ◌∷◌, Option, Some, None}
 use Rattle.std.specs.List.{list_any}
 use Rattle.smv_tree.specs.declared.formula.FormOp.{FormOp}
 use Rattle.smv_tree.specs.declared.formula.FormOp.TheVariants as op
@@ -114,14 +114,3 @@ outermost = 6
 
 abbrev pub atomic : ℕ
 atomic = 10
-
--- the operators of the loosest level group to the right
-abbrev pub rightward : ℕ → Bool
-rightward l = l == 6
-
--- the levels of what stands to the left and to the right of an operator of a level
-abbrev pub left_of : ℕ → ℕ
-left_of l = if rightward l then l - 1 else l
-
-abbrev pub right_of : ℕ → ℕ
-right_of l = if rightward l then l else l - 1

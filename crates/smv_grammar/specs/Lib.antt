@@ -4,3 +4,4 @@ pub mod IsMark
 pub mod Faults
 pub mod Formulas
 pub mod Explaining
+pub mod Levels

@@ -1,5 +1,5 @@
 ghost use Rattle.std.specs.Prelude.{◌≡◌, ◌≤◌, IfSome};
-ghost use Rattle.smv_grammar.specs.Forms.{begins_dots, begins_range, capped, function_of, infix_of, integer, loosest, operator_level, to_right};
+ghost use Rattle.smv_grammar.specs.Forms.{begins_dots, begins_range, capped, function_of, infix_of, integer};
 
 use smv_token::{Lexeme, Mark, Token};
 use smv_tree::{Op1, Op2};
@@ -57,7 +57,7 @@ pub fn function_of(mark: Mark) -> Option<Op1>
 pub fn infix_of(mark: Mark) -> Option<(u32, Op2)>
     ensures value { result ≡ infix_of mark }
     ensures some { IfSome result (λ o. 1 ≤ o.0) }
-    ensures small { IfSome result (λ o. o.0 ≤ loosest) }
+    ensures small { IfSome result (λ o. o.0 ≤ 15) }
 {
     match mark {
         Mark::Concat => Some((3, Op2::Concat)),
@@ -85,19 +85,6 @@ pub fn infix_of(mark: Mark) -> Option<(u32, Op2)>
     }
 }
 
-/// The level of the operator of two operands that a mark is, or 0.
-pub fn operator_level(mark: Mark) -> u32
-    ensures { result ≡ operator_level mark }
-{
-    match mark {
-        Mark::Arrow => 15,
-        _ => match infix_of(mark) {
-            Some((level, _)) => level,
-            None => 0,
-        },
-    }
-}
-
 /// Whether a `..` is at the front.
 fn dots_follow(tokens: &[Token]) -> bool
     ensures { result ≡ begins_dots tokens.now }
@@ -119,11 +106,4 @@ pub fn range_follows(tokens: &[Token]) -> bool
         Lexeme::Number(_) => dots_follow(rest),
         _ => false,
     }
-}
-
-/// Whether the operators of a level group to the right.
-pub fn to_right(level: u32) -> bool
-    ensures { result ≡ to_right level }
-{
-    level == 13 || level == 15
 }

@@ -1,5 +1,5 @@
 ghost use Rattle.std.specs.Prelude.{◌≡◌, ◌≤◌, IfSome};
-ghost use Rattle.smv_grammar.specs.Formulas.{joining_by, outermost, rightward};
+ghost use Rattle.smv_grammar.specs.Formulas.{joining_by, outermost};
 
 use smv_token::Mark;
 use smv_tree::FormOp;
@@ -21,11 +21,4 @@ pub fn joining_by(mark: Mark) -> Option<(u32, FormOp)>
         Mark::Arrow => Some((6, FormOp::Implies)),
         _ => None,
     }
-}
-
-/// Whether the operators of a level group to the right.
-pub fn rightward(level: u32) -> bool
-    ensures { result ≡ rightward level }
-{
-    level == 6
 }

@@ -8,7 +8,6 @@ mod joining;
 
 pub use fault::ParseFault;
 pub use forms::{
-    ATOMIC, DEEPEST, LOOSEST, OUTERMOST, capped, function_of, infix_of, integer, operator_level,
-    range_follows, to_right,
+    ATOMIC, DEEPEST, LOOSEST, OUTERMOST, capped, function_of, infix_of, integer, range_follows,
 };
-pub use joining::{joining_by, rightward};
+pub use joining::joining_by;

@@ -13,7 +13,8 @@ use Rattle.smv_rules.proofs.Judging.{unless_then}
 use Rattle.smv_rules.specs.Rules.{Rule}
 use Rattle.smv_rules.specs.Running.{run}
 use Rattle.smv_rules.specs.Sorts.{Gift, Sort}
-use Rattle.smv_rules.specs.Texts.{ExplainsBy, SpellsSeen}
+use Rattle.smv_rules.specs.Texts.{ExplainsBy}
+use Rattle.smv_rules.specs.PartTexts.{SpellsSeen}
 use Rattle.smv_rules.specs.WholeReading.{Right, judged}
 use Rattle.smv_parse.specs.TextReading.{viewed}
 

@@ -8,7 +8,7 @@ use Rattle.smv_rules.specs.Reading.{Stop, all_read}
 use Rattle.smv_rules.specs.Expressions.{expr}
 use Rattle.smv_rules.specs.Programs.{program}
 use Rattle.smv_rules.specs.Running.{run}
-use Rattle.smv_rules.specs.Texts.{claim_of, formula, tree_of}
+use Rattle.smv_rules.specs.PartTexts.{claim_of, formula, tree_of}
 
 -- what was read, seen by a function
 abbrev pub viewed : {X Y F : Type 0} → (X → Y) → Result X F → Result Y F

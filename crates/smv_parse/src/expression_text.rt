@@ -2,7 +2,7 @@ ghost use Rattle.std.specs.Prelude.{IfErr, IfOk, Ok, Err};
 ghost use Rattle.smv_tree.specs.Trees.{Tree, expr_tree};
 ghost use Rattle.smv_reader.specs.Halts.{Reads};
 ghost use Rattle.smv_rules.specs.Verdicts.{Answers, Unless, judged_by, verdict};
-ghost use Rattle.smv_rules.specs.Texts.{ExplainsExpr, SpellsExpr};
+ghost use Rattle.smv_rules.specs.PartTexts.{ExplainsExpr, SpellsExpr};
 ghost use Rattle.smv_parse.specs.TextReading.{expression_of};
 
 use crate::faults::{fault_of, halt_fault};

@@ -2,7 +2,7 @@ ghost use Rattle.std.specs.Prelude.{IfErr, IfOk, Ok, Err};
 ghost use Rattle.smv_tree.specs.Models.{Claim, formula_claim};
 ghost use Rattle.smv_reader.specs.Halts.{Reads};
 ghost use Rattle.smv_rules.specs.Verdicts.{Answers, Unless, judged_by, verdict};
-ghost use Rattle.smv_rules.specs.Texts.{ExplainsFormula, SpellsFormulaText};
+ghost use Rattle.smv_rules.specs.PartTexts.{ExplainsFormula, SpellsFormulaText};
 ghost use Rattle.smv_parse.specs.TextReading.{formula_of};
 
 use crate::faults::{fault_of, halt_fault};

@@ -6,7 +6,7 @@ use Rattle.outside.specs.declared.Failed.{Failed}
 use Rattle.outside.specs.Told.{Output, Writes}
 use Rattle.smv_tree.specs.Models.{Claim}
 use Rattle.smv_tree.specs.Trees.{Tree}
-use Rattle.smv_rules.specs.Texts.{SpellsExpr, SpellsFormulaText}
+use Rattle.smv_rules.specs.PartTexts.{SpellsExpr, SpellsFormulaText}
 use Rattle.smv_printing.specs.Printing.{claim_printed, printed}
 use Rattle.smv_printing.proofs.Reparsed.{expression_reparsed, formula_reparsed}
 use Rattle.smv_print.specs.Written.{WroteAlike, WroteAlikeFormula}

@@ -8,11 +8,9 @@ use Rattle.smv_tree.specs.Trees.{Tree, Trees, choice, two}
 use Rattle.smv_printing.specs.declared.lead.Lead.{Lead}
 use Rattle.smv_printing.specs.declared.lead.Lead.TheVariants as lead
 use Rattle.smv_token.specs.declared.mark.Mark.TheVariants as marks
-use Rattle.smv_grammar.specs.Forms.{left_level}
-use Rattle.smv_grammar.specs.Formulas.{left_of, right_of}
-use Rattle.smv_rules.specs.Texts.{SpellsExpr, SpellsFormulaText}
+use Rattle.smv_rules.specs.PartTexts.{SpellsExpr, SpellsFormulaText}
 use Rattle.smv_printing.specs.Alike.{Alike, AlikeClaims}
-use Rattle.smv_printing.specs.Printing.{Ink, after_comma, bare, blank, claim_inks, claim_part, level, level_of_claim, listed, right_level, spelled, symbol, text_of}
+use Rattle.smv_printing.specs.Printing.{Ink, after_comma, bare, blank, claim_inks, claim_part, level, level_of_claim, listed, right_level, spelled, symbol, text_of, left_level, left_of, right_of}
 
 -- what was written is a text that spells the expression, places aside
 pub record WroteAlike (old new : Output) (x : Tree) : Type 0 where

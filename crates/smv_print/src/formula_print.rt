@@ -4,15 +4,14 @@ ghost use Rattle.std.specs.Prelude.{◌≡◌, ◌∷◌, ◌++◌, [], OnOk, Li
 ghost use Rattle.outside.specs.Told.{Writes};
 ghost use Rattle.smv_tree.specs.Models.{formula_claim};
 ghost use Rattle.smv_token.specs.declared.mark.Mark.TheVariants as marks;
-ghost use Rattle.smv_grammar.specs.Formulas.{left_of, right_of};
-ghost use Rattle.smv_printing.specs.Printing.{around, blank, claim_inks, claim_level, claim_part, claim_printed, level_of_claim, mark_of_claim, symbol};
-ghost use Rattle.smv_rules.specs.Texts.{SpellsFormulaText};
+ghost use Rattle.smv_printing.specs.Printing.{around, blank, claim_inks, claim_level, claim_part, claim_printed, level_of_claim, mark_of_claim, symbol, left_of, right_of};
+ghost use Rattle.smv_rules.specs.PartTexts.{SpellsFormulaText};
 ghost use Rattle.smv_print.specs.Written.{Prints, WroteAlikeFormula, claim_left_inks, claim_right_inks};
 
 use crate::ink::{put_blank, put_mark, put_operator};
 use crate::print::put_part;
 use outside::{Failed, Sink};
-use smv_grammar::{ATOMIC, joining_by, rightward};
+use smv_grammar::{ATOMIC, OUTERMOST, joining_by};
 use smv_printing::Lead;
 use smv_token::Mark;
 use smv_tree::{FormOp, Formula};
@@ -61,14 +60,14 @@ fn level(f: &Formula) -> u32
 fn left_level(level: u32) -> u32
     ensures { result ≡ left_of level }
 {
-    if rightward(level) { level - 1 } else { level }
+    if level == OUTERMOST { level - 1 } else { level }
 }
 
 /// The level that the place to the right of an operator asks.
 fn right_level(level: u32) -> u32
     ensures { result ≡ right_of level }
 {
-    if rightward(level) {
+    if level == OUTERMOST {
         level
     } else {
         level.saturating_sub(1)

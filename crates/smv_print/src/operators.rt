@@ -2,10 +2,9 @@
 
 ghost use Rattle.std.specs.Prelude.{◌≡◌};
 ghost use Rattle.smv_tree.specs.Trees.{expr_tree};
-ghost use Rattle.smv_grammar.specs.Forms.{left_level};
-ghost use Rattle.smv_printing.specs.Printing.{is_negation, level, level_of_one, mark_of_two, misread, right_level};
+ghost use Rattle.smv_printing.specs.Printing.{is_negation, left_level, level, level_of_one, mark_of_two, misread, operator_level, right_level, to_right};
 
-use smv_grammar::{operator_level, to_right};
+use smv_grammar::infix_of;
 use smv_printing::Lead;
 use smv_token::Mark;
 use smv_tree::{Expr, Op1, Op2};
@@ -51,6 +50,19 @@ fn level_of_one(op: Op1) -> u32
     }
 }
 
+/// The level of the operator of two operands that a mark is, or 0.
+fn operator_level(mark: Mark) -> u32
+    ensures { result ≡ operator_level mark }
+{
+    match mark {
+        Mark::Arrow => 15,
+        _ => match infix_of(mark) {
+            Some((level, _)) => level,
+            None => 0,
+        },
+    }
+}
+
 /// The level of an expression: that of its operator, or 1.
 pub fn level(e: &Expr) -> u32
     ensures { result ≡ level (expr_tree e.now) }
@@ -61,6 +73,13 @@ pub fn level(e: &Expr) -> u32
         Expr::Two(_, op, _, _) => operator_level(mark_of_two(*op)),
         _ => 1,
     }
+}
+
+/// Whether the operators of a level group to the right.
+fn to_right(level: u32) -> bool
+    ensures { result ≡ to_right level }
+{
+    level == 13 || level == 15
 }
 
 /// The level that the place to the left of an operator asks.

@@ -7,7 +7,7 @@ ghost use Rattle.smv_printing.specs.declared.lead.Lead.TheVariants as lead_is;
 ghost use Rattle.smv_token.specs.declared.mark.Mark.TheVariants as marks;
 ghost use Rattle.smv_grammar.specs.Branches.{arm_of};
 ghost use Rattle.smv_printing.specs.Printing.{around, bare, branches, call, blank, gap, integer, listed, numeral, printed, spelled, symbol, width};
-ghost use Rattle.smv_rules.specs.Texts.{SpellsExpr};
+ghost use Rattle.smv_rules.specs.PartTexts.{SpellsExpr};
 ghost use Rattle.smv_print.specs.Written.{Prints, WroteAlike, left_inks, right_inks, separator, then_inks};
 
 use crate::ink::{

@@ -10,7 +10,7 @@ use Rattle.smv_token.specs.declared.token.Token.{Token}
 use Rattle.smv_token.specs.declared.token.Lexeme.{Lexeme}
 use Rattle.smv_token.specs.declared.token.Lexeme.TheVariants as lexeme
 use Rattle.smv_grammar.specs.Forms.{deepest}
-use Rattle.smv_grammar.specs.Formulas.{holds_temporal, left_of, outermost, right_of, start_at}
+use Rattle.smv_grammar.specs.Formulas.{holds_temporal, outermost, start_at}
 use Rattle.smv_rules.specs.Keys.{prefix_of}
 use Rattle.smv_rules.specs.Sorts.{Formula, a_formula}
 use Rattle.smv_rules.specs.Rules.{gives, too_deep}
@@ -18,7 +18,7 @@ use Rattle.smv_rules.specs.Formulas.{deeper}
 use Rattle.smv_rules.specs.Follows as follows
 use Rattle.smv_rules.specs.Follows.{Follows}
 use Rattle.smv_printing.specs.declared.lead.Lead.TheVariants as lead
-use Rattle.smv_printing.specs.Printing.{claim_level, level_of_claim}
+use Rattle.smv_printing.specs.Printing.{claim_level, level_of_claim, left_of, right_of}
 use Rattle.smv_printing.specs.Scannables.{AllScannable, ClaimScannable}
 use Rattle.smv_printing.proofs.PrintedDepth.{depth_in}
 use Rattle.smv_printing.proofs.Timed.{timed}

@@ -11,7 +11,7 @@ use Rattle.smv_token.specs.declared.mark.Mark.TheVariants as marks
 use Rattle.smv_token.specs.declared.token.Token.{Token}
 use Rattle.smv_token.specs.declared.token.Lexeme.TheVariants as lexeme
 use Rattle.smv_grammar.specs.Forms.{deepest, is_dots}
-use Rattle.smv_grammar.specs.Formulas.{bracket_if, holds_temporal, left_of, outermost, right_of, start_at, start_by}
+use Rattle.smv_grammar.specs.Formulas.{bracket_if, holds_temporal, outermost, start_at, start_by}
 use Rattle.smv_rules.specs.Keys.{begins_with, if_there, is_bracket, prefix_of, sees}
 use Rattle.smv_rules.specs.Keys as key
 use Rattle.smv_rules.specs.Sorts.{Formula, a_formula, an_expression}
@@ -22,7 +22,7 @@ use Rattle.smv_rules.specs.Formulas.{an_atom, deeper, formula_level, implied, jo
 use Rattle.smv_rules.specs.Follows.{Follows, plain, done, takes, skips, chains}
 use Rattle.smv_printing.specs.Alike.{AlikeClaims, claim_unplaced}
 use Rattle.smv_printing.specs.declared.lead.Lead.TheVariants as lead
-use Rattle.smv_printing.specs.Printing.{Ink, around, blank, claim_inks, claim_level, claim_part, level_of_claim, mark_of_claim, spelled, symbol}
+use Rattle.smv_printing.specs.Printing.{Ink, around, blank, claim_inks, claim_level, claim_part, level_of_claim, mark_of_claim, spelled, symbol, left_of, right_of}
 use Rattle.smv_printing.specs.Scannables.{ClaimScannable, Scannables}
 use Rattle.smv_printing.proofs.PrintedDepth.{place_some}
 use Rattle.smv_printing.proofs.Says.{Says, past, said_at, says_blank, says_ends, says_gives, says_joined, says_mark, says_part, says_skips, says_stops, says_takes, says_then, sees_alone, stands}

@@ -3,11 +3,11 @@ use Rattle.std.proofs.Common.{◌≡◌, ◌≤◌, ◌<◌, ◌||◌, ℕ, suc,
 use Rattle.std.proofs.lemmas.Bool.{le-ltb, ltb-false, ltb-true}
 use Rattle.smv_tree.specs.declared.expr.Op1.TheVariants as op1
 use Rattle.smv_tree.specs.Trees.{Tree, choice, one, two, select, span, trees, arms}
-use Rattle.smv_grammar.specs.Forms.{deepest, left_level}
+use Rattle.smv_grammar.specs.Forms.{deepest}
 use Rattle.smv_rules.specs.Sorts.{Branches, Expression, Operands}
 use Rattle.smv_printing.specs.declared.lead.Lead.{Lead}
 use Rattle.smv_printing.specs.declared.lead.Lead.TheVariants as lead
-use Rattle.smv_printing.specs.Printing.{level, misread}
+use Rattle.smv_printing.specs.Printing.{level, misread, left_level}
 use Rattle.smv_printing.specs.Scannables.{ArmsScannable, EachScannable, Scannables, SomeArms, SomeTrees}
 use Rattle.smv_printing.proofs.PrintedDepth.{IsSpan, depth, depth_all, depth_arms, depth_in, held, held_less}
 

@@ -9,7 +9,7 @@ use Rattle.smv_tree.specs.declared.expr.Op2.TheVariants as op2
 use Rattle.smv_tree.specs.declared.place.Place.{Place}
 use Rattle.smv_tree.specs.Trees.{Tree, truth, number, word, name, span, set, cases, choice, one, two, select, next, widen, const, count, trees, arms}
 use Rattle.smv_token.specs.declared.mark.Mark.TheVariants as marks
-use Rattle.smv_grammar.specs.Forms.{capped, deepest, integer, left_level}
+use Rattle.smv_grammar.specs.Forms.{capped, deepest, integer}
 use Rattle.smv_rules.specs.Keys.{Opener, Primary, primary_by}
 use Rattle.smv_rules.specs.Keys as key
 use Rattle.smv_rules.specs.Sorts.{Expression, Operands, Branches, Sort, an_expression}
@@ -17,7 +17,7 @@ use Rattle.smv_rules.specs.Rules.{Part, gives, too_deep, may, expression, formul
 use Rattle.smv_rules.specs.Table.{table}
 use Rattle.smv_rules.specs.Expressions.{an_int, applied, branch, chosen, constant, counted, deeper, enclosed, implied, joined, level, level_from, listed, listed_branches, mark, more_branches, nested, number as a_number, no_branches, operands, prefixed, primary, primary_from, range_from, selected, selecting, widened}
 use Rattle.smv_printing.specs.Scannables.{ArmsScannable, OwnName, OwnNames, OwnPath, Scannable, Scannables, Signed, greatest}
-use Rattle.smv_printing.specs.Printing.{path_head, right_level}
+use Rattle.smv_printing.specs.Printing.{path_head, right_level, left_level}
 use Rattle.smv_printing.specs.Printing as print
 use Rattle.smv_printing.specs.declared.lead.Lead.{Lead}
 use Rattle.smv_printing.specs.declared.lead.Lead.TheVariants as lead

@@ -15,7 +15,7 @@ use Rattle.smv_token.specs.declared.mark.Mark.TheVariants as marks
 use Rattle.smv_token.specs.declared.token.Token.{Token}
 use Rattle.smv_token.specs.declared.token.Lexeme.{Lexeme}
 use Rattle.smv_token.specs.declared.token.Lexeme.TheVariants as lexeme
-use Rattle.smv_grammar.specs.Forms.{begins_range, infix_of, left_level, operator_level}
+use Rattle.smv_grammar.specs.Forms.{begins_range, infix_of}
 use Rattle.smv_grammar.specs.Formulas.{Role, opens, closes, temporal, plain, group, group_on, holds_temporal, is_temporal, role, role_of, role_of_mark}
 use Rattle.smv_grammar.specs.IsMark.{is_mark}
 use Rattle.smv_rules.specs.Keys.{Key, Payload, Primary, begins_with, by_mark, if_there, mark_of, name_of, number_of, of_level, primary_by, primary_of, sees, with_place}
@@ -23,7 +23,7 @@ use Rattle.smv_rules.specs.Keys as key
 use Rattle.smv_rules.specs.Sorts.{Gift, Sort, an_expression, some_branches, some_names, some_operands}
 use Rattle.smv_rules.specs.Rules.{Part, Rule, gives, too_deep, must, may, part, then, again, expression, formula, inside, bits}
 use Rattle.smv_rules.proofs.Firsts.{is_mark_true}
-use Rattle.smv_printing.specs.Printing.{mark_of_two, path_head, right_level}
+use Rattle.smv_printing.specs.Printing.{mark_of_two, path_head, right_level, left_level, operator_level}
 use Rattle.smv_printing.specs.Scannables.{OwnName, OwnPath, OwnWord, Scannable, greatest}
 use Rattle.smv_printing.proofs.Fits.{AllFit, ArmsFit, Fits}
 
@@ -63,6 +63,7 @@ role_by key.number n = plain
 role_by key.primary o = primary_role o.0
 role_by key.minus p = plain
 role_by key.further p = plain
+role_by key.closing p = plain
 role_by (key.operator l) o = plain
 role_by k p = temporal
 
@@ -176,6 +177,10 @@ pub not_first : {X : Type 0} (b c : Bool) (x y : X) → cond b None (if_there c 
 not_first true c x y e = absurd (cc)
 not_first false c x y e = there c x y e
 
+at_first : {X : Type 0} (b c : Bool) (x y : X) → cond b (if_there c x) None ≡ Some y → c ≡ true
+at_first true c x y e = there c x y e
+at_first false c x y e = absurd (cc)
+
 abbrev first_of : {X : Type 0} → Option (X × Place) → Option X
 first_of None = None
 first_of (Some y) = Some y.0
@@ -227,6 +232,7 @@ role_seen key.number t ts p i Q e h = ap role_of (number_seen t.lexeme p e)
 role_seen key.primary t ts p i Q e h = primary_seen t.lexeme p.0 (placed (primary_of t.lexeme) t.place p e)
 role_seen key.minus t ts p i Q e h = mark_role marks.Minus t.lexeme (not_first (begins_range ts) (is_mark marks.Minus t.lexeme) t.place p e)
 role_seen key.further t ts p i Q e h = mark_role marks.Semicolon t.lexeme (not_first (begins_with marks.Esac ts) (is_mark marks.Semicolon t.lexeme) t.place p e)
+role_seen key.closing t ts p i Q e h = mark_role marks.Semicolon t.lexeme (at_first (begins_with marks.Esac ts) (is_mark marks.Semicolon t.lexeme) t.place p e)
 role_seen (key.operator l) t ts p i Q e h = (operator_seen t.lexeme l p.0 (levels_of l (by_mark infix_of (mark_of t.lexeme)) p.0 (placed (of_level l (by_mark infix_of (mark_of t.lexeme))) t.place p e))).0
 role_seen k t ts p i Q e h = absurd h
 

@@ -12,10 +12,9 @@ use Rattle.smv_printing.specs.declared.lead.Lead.TheVariants as lead
 use Rattle.smv_token.specs.declared.mark.Mark.TheVariants as marks
 use Rattle.smv_token.specs.declared.token.Lexeme.TheVariants as lexeme
 use Rattle.smv_printing.specs.Beside.{Stops, first_byte, first_of}
-use Rattle.smv_grammar.specs.Forms.{left_level, operator_level}
 use Rattle.smv_token.specs.Marks.{text}
 use Rattle.smv_token.specs.Numbers.{is_decimal}
-use Rattle.smv_printing.specs.Printing.{Ink, bare, blank, integer, is_negation, level, mark_of_two, misread, part, path, path_head, lexeme_text, symbol, token, word_head, word_text}
+use Rattle.smv_printing.specs.Printing.{Ink, bare, blank, integer, is_negation, level, mark_of_two, misread, part, path, path_head, lexeme_text, symbol, token, word_head, word_text, left_level, operator_level}
 use Rattle.smv_printing.specs.Scannables.{OwnPath, Scannable, Scannables, Signed, first_is, greatest}
 use Rattle.smv_token.specs.Tokens.{begins_name}
 use Rattle.smv_printing.proofs.ReadMarks.{apart, either_not}

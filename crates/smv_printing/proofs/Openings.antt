@@ -10,12 +10,12 @@ use Rattle.smv_token.specs.declared.mark.Mark.TheVariants as marks
 use Rattle.smv_token.specs.declared.token.Token.{Token}
 use Rattle.smv_token.specs.declared.token.Lexeme.{Lexeme}
 use Rattle.smv_token.specs.declared.token.Lexeme.TheVariants as lexeme
-use Rattle.smv_grammar.specs.Forms.{begins_dots, begins_range, is_dots, is_number, left_level}
+use Rattle.smv_grammar.specs.Forms.{begins_dots, begins_range, is_dots, is_number}
 use Rattle.smv_grammar.specs.IsMark.{is_mark, same_mark}
 use Rattle.smv_rules.specs.Keys.{begins_with}
 use Rattle.smv_printing.specs.declared.lead.Lead.{Lead}
 use Rattle.smv_printing.specs.declared.lead.Lead.TheVariants as lead
-use Rattle.smv_printing.specs.Printing.{Ink, bare, blank, dotted, level, mark_of_two, misread, path_head, spelled, symbol, token}
+use Rattle.smv_printing.specs.Printing.{Ink, bare, blank, dotted, level, mark_of_two, misread, path_head, spelled, symbol, token, left_level}
 use Rattle.smv_printing.specs.Scannables.{Scannables}
 use Rattle.smv_printing.proofs.Says.{Lays, NoDots, lays_quiet}
 

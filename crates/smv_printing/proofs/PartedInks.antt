@@ -9,9 +9,8 @@ use Rattle.smv_token.specs.declared.mark.Mark.{Mark}
 use Rattle.smv_token.specs.declared.mark.Mark.TheVariants as marks
 use Rattle.smv_token.specs.declared.token.Lexeme.TheVariants as lexeme
 use Rattle.smv_printing.specs.Beside.{Stands, Stops, WellParted, first_byte, first_of, runs_on}
-use Rattle.smv_grammar.specs.Forms.{left_level}
 use Rattle.smv_token.specs.Marks.{text}
-use Rattle.smv_printing.specs.Printing.{Ink, after_comma, around, bare, blank, branches, call, constant, dotted, gap, integer, is_negation, level, listed, mark_of_one, mark_of_two, misread, part, path, path_head, right_level, symbol, token, widening, width}
+use Rattle.smv_printing.specs.Printing.{Ink, after_comma, around, bare, blank, branches, call, constant, dotted, gap, integer, is_negation, level, listed, mark_of_one, mark_of_two, misread, part, path, path_head, right_level, symbol, token, widening, width, left_level}
 use Rattle.smv_printing.specs.Scannables.{ArmsScannable, EachScannable, OwnNames, OwnPath, Scannable, Scannables, Signed, first_is, greatest, widest}
 use Rattle.smv_token.specs.Tokens.{begins_name, continues_name}
 use Rattle.smv_printing.proofs.InkFronts.{Begins, NoMinus, begins, begins_part, first_append, no_minus, number_begins, part_begins, part_no_minus}

@@ -4,8 +4,7 @@ use Rattle.smv_tree.specs.declared.expr.Op1.TheVariants as op1
 use Rattle.smv_tree.specs.Trees.{Tree, Trees, Arms, truth, number, word, name, span, set, cases, choice, one, two, select, next, widen, const, count, no_trees, tree, no_arms, arm}
 use Rattle.smv_printing.specs.declared.lead.Lead.{Lead}
 use Rattle.smv_printing.specs.declared.lead.Lead.TheVariants as lead
-use Rattle.smv_grammar.specs.Forms.{left_level}
-use Rattle.smv_printing.specs.Printing.{level, misread, right_level}
+use Rattle.smv_printing.specs.Printing.{level, misread, right_level, left_level}
 
 abbrev pub IsSpan : Tree → Type 0
 IsSpan (span p low high) = Unit {0}

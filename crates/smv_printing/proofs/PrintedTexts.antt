@@ -9,8 +9,7 @@ use Rattle.smv_token.specs.declared.token.Flaw.{Flaw}
 use Rattle.smv_token.specs.declared.token.Token.{Token}
 use Rattle.smv_printing.specs.Beside.{ReadBack, WellParted, first_byte}
 use Rattle.smv_token.specs.Marks.{text}
-use Rattle.smv_printing.specs.Printing.{bare, claim_inks, claim_level, claim_part, level_of_claim, mark_of_claim, symbol}
-use Rattle.smv_grammar.specs.Formulas.{left_of, right_of}
+use Rattle.smv_printing.specs.Printing.{bare, claim_inks, claim_level, claim_part, level_of_claim, mark_of_claim, symbol, left_of, right_of}
 use Rattle.smv_printing.specs.Scannables.{AllScannable, ClaimScannable, Scannables}
 use Rattle.smv_token.specs.Tokens.{Scanned, if_whole, scanned, tokens_of}
 use Rattle.smv_printing.proofs.InkFronts.{Begins, begins, begins_append, part_begins}

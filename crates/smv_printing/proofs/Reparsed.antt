@@ -5,8 +5,8 @@ use Rattle.smv_tree.specs.Trees.{Tree}
 use Rattle.smv_grammar.specs.Forms.{deepest}
 use Rattle.smv_rules.specs.Expressions.{expr}
 use Rattle.smv_rules.specs.Sorts.{Expression, Formula}
-use Rattle.smv_rules.specs.Texts.{SpellsBy, SpellsExpr, SpellsFormulaText, formula}
-use Rattle.smv_rules.proofs.PlainLaws.{expression_plain, formula_plain}
+use Rattle.smv_rules.specs.Texts.{SpellsBy}
+use Rattle.smv_rules.specs.PartTexts.{SpellsExpr, SpellsFormulaText, formula}
 use Rattle.smv_printing.specs.Alike.{Alike, AlikeClaims, Reparsed, ReparsedFormula}
 use Rattle.smv_printing.specs.declared.lead.Lead.TheVariants as lead
 use Rattle.smv_printing.specs.Printing.{bare, claim_inks, claim_printed, printed}
@@ -37,19 +37,19 @@ by_expression bytes x s =
     let small = f.within in
     let back = printed_scanned x.tree f.well in
     let y = (loosely x.tree (respelled x.tree f.well) deepest (omega (arith, d, small)) (omega (arith, d, small))).along back.tokens [] (lays (bare x.tree lead.Free) back.tokens back.laid) refl (text_scannable (printed x.tree) back.tokens back.scanned) in
-    said_expression x.tree y.given (record { tokens = back.tokens; scanned = back.scanned; spelled = (expression_plain back.tokens y.given).0 y.follows }) y.holds.alike
+    said_expression x.tree y.given (record { tokens = back.tokens; scanned = back.scanned; spelled = y.follows }) y.holds.alike
 
 by_formula : (bytes : List ℕ) (x : Formula) → SpellsBy formula bytes x → ReparsedFormula x.claim
 by_formula bytes x s =
     let a = text_scannable bytes s.tokens s.scanned in
-    let g = claim_gave deepest s.tokens [] x ((formula_plain s.tokens x).1 s.spelled) a in
+    let g = claim_gave deepest s.tokens [] x s.spelled a in
     let f = g.fits in
     let e = f.shallow in
     let small = f.within in
     let d = (placed_most 6 x.claim (claim_depth x.claim)).1 in
     let back = claim_scanned x.claim f.well in
     let y = (said_again x.claim f.well f.brackets (omega (arith, d, e, small))).along back.tokens [] (lays (claim_inks x.claim) back.tokens back.laid) refl (text_scannable (claim_printed x.claim) back.tokens back.scanned) in
-    said_formula x.claim y.given (record { tokens = back.tokens; scanned = back.scanned; spelled = (formula_plain back.tokens y.given).0 y.follows }) y.holds.alike
+    said_formula x.claim y.given (record { tokens = back.tokens; scanned = back.scanned; spelled = y.follows }) y.holds.alike
 
 pub expression_reparsed : (bytes : List ℕ) (x : Tree) → SpellsExpr bytes x → Reparsed x
 expression_reparsed bytes x s = subst Reparsed s.is (by_expression bytes s.given s.spelled)

@@ -16,7 +16,7 @@ use Rattle.smv_printing.specs.declared.lead.Lead.TheVariants as lead
 use Rattle.smv_printing.specs.Printing.{Ink, around, bare, blank, branches, symbol}
 use Rattle.smv_printing.specs.Scannables.{ArmsScannable, SomeArms}
 use Rattle.smv_printing.proofs.PrintedDepth.{depth, depth_arms, depth_some, held_less}
-use Rattle.smv_printing.proofs.Says.{NoDots, Says, Sees, says_blank, says_deeper, says_ends, says_gives, says_goes_on, says_mark, says_more, says_stops, says_then}
+use Rattle.smv_printing.proofs.Says.{NoDots, Says, Sees, says_blank, says_deeper, says_ends, says_gives, says_goes_on, says_last, says_mark, says_more, says_stops, says_then}
 use Rattle.smv_printing.proofs.SaysLevels.{Like, Respelled, loosely, says_opener}
 use Rattle.smv_printing.proofs.Respelled.{primary_own}
 use Rattle.smv_printing.proofs.Openings.{Opens, begins_not, opens, opens_more}
@@ -119,6 +119,6 @@ cases_again p (arm c v bs) some s all k n le small =
     says_then (ExtendsArms zs bs) (further_again m bs s.2 all.2 zs (omega (arith, i)) (omega (arith, small))) refl (λ ws e.
     let g = extended no_branches zs ws c v bs h e in
     let r = g.small in
-    says_mark (λ t. says_blank (says_mark (λ u. says_deeper (cases q (arms ws.arms)) ws.depth (omega (arith, r, small)) (record { alike = ap (cases nowhere) (g.alike ∙ ap (λ us. unplaced_arms (arms us)) (sym g.is)); small = omega (arith, r) })))))))))) where
+    says_last (λ t. says_blank (says_mark (λ u. says_deeper (cases q (arms ws.arms)) ws.depth (omega (arith, r, small)) (record { alike = ap (cases nowhere) (g.alike ∙ ap (λ us. unplaced_arms (arms us)) (sym g.is)); small = omega (arith, r) })))))))))) where
       d : ℕ
       d = max (max (depth c lead.Free) (depth v lead.Free)) (depth_arms bs)

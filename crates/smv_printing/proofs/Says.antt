@@ -1,22 +1,23 @@
 -- Following rules along what is printed.
 use denote.Enum.Bare.{true_same}
-use Rattle.std.proofs.Common.{◌≡◌, ◌≤◌, ◌<◌, ℕ, zero, suc, true, false, cond, List, [], ◌∷◌, ◌++◌, Some, refl, sym, subst, ap, arith}
+use Rattle.std.proofs.Common.{◌≡◌, ◌≤◌, ◌<◌, ℕ, zero, suc, true, false, cond, List, [], ◌∷◌, ◌++◌, Option, Some, None, refl, sym, subst, ap, arith}
 use Rattle.std.proofs.lemmas.Bool.{lt-ltb}
 use Rattle.smv_tree.specs.declared.place.Place.{Place}
 use Rattle.smv_tree.specs.Trees.{Tree}
 use Rattle.smv_token.specs.contracts.mark.Mark.{the_type}
 use Rattle.smv_token.specs.declared.mark.Mark.{Mark}
+use Rattle.smv_token.specs.declared.mark.Mark.TheVariants as marks
 use Rattle.smv_token.specs.declared.token.Token.{Token}
 use Rattle.smv_token.specs.declared.token.Lexeme.{Lexeme}
 use Rattle.smv_token.specs.declared.token.Lexeme.TheVariants as lexeme
 use Rattle.smv_grammar.specs.Forms.{begins_dots, deepest, is_dots}
 use Rattle.smv_grammar.specs.IsMark.{same_mark}
-use Rattle.smv_rules.specs.Keys.{Key, Payload, if_there, sees}
+use Rattle.smv_rules.specs.Keys.{Key, Payload, begins_with, if_there, sees}
 use Rattle.smv_rules.specs.Keys as key
 use Rattle.smv_rules.specs.Sorts.{Expression, Gift, Sort, a_count, a_place, an_expression}
 use Rattle.smv_rules.specs.Rules.{Part, Rule, gives, too_deep, must, may, part, then, again, ◌>>=◌}
 use Rattle.smv_rules.specs.Table.{table}
-use Rattle.smv_rules.specs.Expressions.{deeper, mark, number}
+use Rattle.smv_rules.specs.Expressions.{deeper, last_semicolon, mark, number}
 use Rattle.smv_rules.proofs.Inverting.{Inverted, inverted}
 use Rattle.smv_rules.specs.Follows.{plain, Follows, Ruled, done, has, takes, skips, nests, stays, chains, stops, goes_on}
 use Rattle.smv_printing.specs.Alike.{Laid, inked, lexemes}
@@ -170,24 +171,30 @@ mark_seen m p us = ap (λ b. if_there b p) (same_self m)
 pub sees_mark : {m : Mark} {is : List Ink} → Sees (key.mark m) (lexeme.Mark m) is (λ p. p)
 sees_mark {m} {is} = sees_alone (mark_seen m)
 
-pub says_mark : {n : ℕ} {s : Sort} {m : Mark} {f : Place → Rule s} {is : List Ink} {G : Gift s → Type 0} → ((p : Place) → Says n (f p) is G) → Says n (mark m >>= f) (symbol m ∷ is) G
-says_mark {n} {s} {m} {f} {is} {G} h = record {
+-- a rule of one token, and another
+says_token : {n : ℕ} {z s : Sort} {k : Key} (g : Payload k → Gift z) {f : Gift z → Rule s} {w : Lexeme} {is : List Ink} {G : Gift s → Type 0} (load : Place → Payload k) → Sees k w is load → ((p : Place) → Says n (f (g (load p))) is G) → Says n (must z k (λ p. gives z (g p)) >>= f) (token w ∷ is) G
+says_token {n} {z} {s} {k} g {f} {w} load e h = record {
   along = λ ts rest l q a.
-      let p = l.place in
+      let x = load l.place in
       let us = l.others in
-      let y = (h p).along us rest l.behind q (past l.is a) in
-      said_at l.is (record { given = y.given; follows = chains n a_place s (mark m) f (stands p (lexeme.Mark m) ∷ us) us rest p y.given (has n a_place (key.mark m) (λ p. gives a_place p) (stands p (lexeme.Mark m)) p us us p (mark_seen m p us) (done n a_place p us)) y.follows; holds = y.holds });
+      let y = (h l.place).along us rest l.behind q (past l.is a) in
+      said_at l.is (record { given = y.given; follows = chains n z s (must z k (λ p. gives z (g p))) f (stands l.place w ∷ us) us rest (g x) y.given (has n z k (λ p. gives z (g p)) (stands l.place w) x us us (g x) (e.at l.place us rest l.behind q) (done n z (g x) us)) y.follows; holds = y.holds });
 }
+
+pub says_mark : {n : ℕ} {s : Sort} {m : Mark} {f : Place → Rule s} {is : List Ink} {G : Gift s → Type 0} → ((p : Place) → Says n (f p) is G) → Says n (mark m >>= f) (symbol m ∷ is) G
+says_mark {m = m} h = says_token (λ p. p) (λ p. p) (sees_mark {m = m}) h
+
+-- the `;` before the end of a case
+last_sees : Sees key.closing (lexeme.Mark marks.Semicolon) (blank ∷ symbol marks.Esac ∷ []) (λ p. p)
+unfolding sees same_mark
+last_sees = record { at = λ p us rest l q. subst (λ us. cond {A = Option Place} (begins_with marks.Esac us) (Some p) None ≡ Some p) (sym l.is) refl }
+
+pub says_last : {n : ℕ} {s : Sort} {f : Place → Rule s} {G : Gift s → Type 0} → ((p : Place) → Says n (f p) (blank ∷ symbol marks.Esac ∷ []) G) → Says n (last_semicolon >>= f) (symbol marks.Semicolon ∷ blank ∷ symbol marks.Esac ∷ []) G
+says_last h = says_token (λ p. p) (λ p. p) last_sees h
 
 pub says_number : {n : ℕ} {s : Sort} {v : ℕ} {f : ℕ → Rule s} {is : List Ink} {G : Gift s → Type 0} → Says n (f v) is G → Says n (number >>= f) (numeral v ∷ is) G
 unfolding sees
-says_number {n} {s} {v} {f} {is} {G} h = record {
-  along = λ ts rest l q a.
-      let p = l.place in
-      let us = l.others in
-      let y = h.along us rest l.behind q (past l.is a) in
-      said_at l.is (record { given = y.given; follows = chains n a_count s number f (stands p (lexeme.Number v) ∷ us) us rest v y.given (has n a_count key.number (λ n. gives a_count n) (stands p (lexeme.Number v)) v us us v refl (done n a_count v us)) y.follows; holds = y.holds });
-}
+says_number {v = v} h = says_token {k = key.number} (λ n. n) (λ p. v) (sees_alone (λ p us. refl)) (λ p. h)
 
 -- a part is nested once more, where one nesting more may be opened
 says_nests : {n : ℕ} {s : Sort} {p : Part s} {r : Rule s} {is : List Ink} {G : Gift s → Type 0} → Says n (table p) is G → Says (suc n) (part s p r) is G

@@ -5,7 +5,7 @@ use Rattle.smv_tree.specs.Models.{Claim, atom, no, after, always, some_time, bot
 use Rattle.smv_tree.specs.Trees.{Tree, Trees, Arms, truth, number, word, name, span, set, cases, choice, one, two, select, next, widen, const, count, no_trees, tree, no_arms, arm}
 use Rattle.smv_token.specs.declared.token.Token.{Token}
 use Rattle.smv_token.specs.declared.token.Lexeme.{Lexeme}
-use Rattle.smv_rules.specs.Texts.{SpellsExpr, SpellsFormulaText}
+use Rattle.smv_rules.specs.PartTexts.{SpellsExpr, SpellsFormulaText}
 use Rattle.smv_printing.specs.Printing.{Ink, blank, claim_printed, printed, token}
 
 -- the place that stands for each place

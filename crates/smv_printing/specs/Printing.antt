@@ -1,5 +1,5 @@
 -- How expressions and formulas are printed.
-use Rattle.std.specs.Prelude.{ℕ, suc, ℤ, pos, negsuc, ◌||◌, ◌-◌, Bool, true, false, List, [], ◌∷◌, ◌++◌, if◌then◌else◌, nat_lt, codes, decimal}
+use Rattle.std.specs.Prelude.{ℕ, suc, ℤ, pos, negsuc, ◌||◌, ◌==◌, ◌-◌, Bool, true, false, List, [], ◌∷◌, ◌++◌, if◌then◌else◌, nat_lt, codes, decimal}
 use Rattle.std.specs.List.{flat_map}
 use Rattle.std.specs.Str.{bytes_eq}
 use Rattle.smv_tree.specs.declared.expr.Op1.{Op1}
@@ -17,8 +17,9 @@ use Rattle.smv_token.specs.declared.mark.Mark.{Mark}
 use Rattle.smv_token.specs.declared.mark.Mark.TheVariants as marks
 use Rattle.smv_token.specs.declared.token.Lexeme.{Lexeme}
 use Rattle.smv_token.specs.declared.token.Lexeme.TheVariants as lexeme
-use Rattle.smv_grammar.specs.Forms.{left_level, level_of, operator_level, to_right}
-use Rattle.smv_grammar.specs.Formulas.{atomic, joining_by, left_of, right_of}
+use Rattle.smv_grammar.specs.Forms.{infix_of}
+use Rattle.smv_grammar.specs.Formulas.{atomic, joining_by, outermost}
+use Rattle.smv_grammar.specs.Levels.{level_of}
 use Rattle.smv_token.specs.Marks.{text}
 
 -- What is printed: tokens, with single blanks where they are wanted.
@@ -96,6 +97,11 @@ level_of_one op1.Not = 2
 level_of_one op1.Neg = 4
 level_of_one o = 1
 
+-- the level of the operator of two operands that a mark is, or 0
+abbrev pub operator_level : Mark → ℕ
+operator_level marks.Arrow = 15
+operator_level m = level_of (infix_of m)
+
 -- the level of an expression: that of its operator, or 1
 abbrev pub level : Tree → ℕ
 level (choice p c a b) = 13
@@ -103,7 +109,14 @@ level (one p o a) = level_of_one o
 level (two p o a b) = operator_level (mark_of_two o)
 level x = 1
 
--- the level that the place to the right of an operator asks
+-- the levels whose operators group to the right
+abbrev pub to_right : ℕ → Bool
+to_right l = l == 13 || l == 15
+
+-- the levels that the places to the left and to the right of an operator ask
+abbrev pub left_level : ℕ → ℕ
+left_level l = if to_right l then l - 1 else l
+
 abbrev pub right_level : ℕ → ℕ
 right_level l = if to_right l then l else l - 1
 
@@ -220,6 +233,13 @@ mark_of_claim form_op.Implies = marks.Arrow
 -- the level of an operator between formulas
 abbrev pub level_of_claim : FormOp → ℕ
 level_of_claim o = level_of (joining_by (mark_of_claim o))
+
+-- the levels that the places to its left and to its right ask: the loosest groups to the right
+abbrev pub left_of : ℕ → ℕ
+left_of l = if l == outermost then l - 1 else l
+
+abbrev pub right_of : ℕ → ℕ
+right_of l = if l == outermost then l else l - 1
 
 -- the level of a formula: that of its operator between two formulas, or 1
 abbrev pub claim_level : Claim → ℕ

@@ -2,7 +2,7 @@ ghost use Rattle.std.specs.Prelude.{List, ℕ};
 ghost use Rattle.smv_tree.specs.Models.{Claim};
 ghost use Rattle.smv_tree.specs.Trees.{Tree};
 ghost use Rattle.smv_printing.specs.Alike.{Reparsed, ReparsedFormula};
-ghost use Rattle.smv_rules.specs.Texts.{SpellsExpr, SpellsFormulaText};
+ghost use Rattle.smv_rules.specs.PartTexts.{SpellsExpr, SpellsFormulaText};
 
 /// What is printed of an expression or a formula that a text spells spells it again, places aside.
 pub fn same_when_printed()

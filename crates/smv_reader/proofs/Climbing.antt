@@ -11,7 +11,8 @@ use Rattle.smv_token.specs.declared.mark.Mark.TheVariants as marks
 use Rattle.smv_token.specs.declared.token.Token.{Token}
 use Rattle.smv_token.specs.declared.token.Lexeme.{Lexeme}
 use Rattle.smv_token.specs.declared.token.Lexeme.TheVariants as lexeme
-use Rattle.smv_grammar.specs.Forms.{infix_of, level_of}
+use Rattle.smv_grammar.specs.Forms.{infix_of}
+use Rattle.smv_grammar.specs.Levels.{level_of}
 use Rattle.smv_grammar.specs.IsMark.{is_mark, same_mark}
 use Rattle.smv_reader.specs.declared.halt.Halt.{Halt}
 use Rattle.smv_reader.specs.declared.halt.Halt.TheVariants as halts
@@ -25,31 +26,12 @@ use Rattle.smv_rules.specs.Running.{if_seen, run}
 use Rattle.smv_rules.specs.Sorts.{Expression, Gift, Sort, an_expression}
 use Rattle.smv_rules.specs.Expressions.{chosen, deeper, implied, joined, level, prefixed, primary, selected}
 use Rattle.smv_rules.proofs.Meeting.{done_read, next_read, run_within, skip_read, stop_read, take_read}
-use Rattle.smv_reader.specs.Climbing.{Infix, Prefix, as_infix, climb, infix_at, level_by, marked_infix, marked_level, next_level, prefix_at, tail, up}
+use Rattle.smv_reader.specs.Climbing.{Infix, Prefix, as_infix, climb, infix_at, level_by, marked_infix, marked_level, next_level, prefix_at, step, tail, up}
+use Rattle.smv_reader.specs.Steps.{steps}
+use Rattle.smv_reader.proofs.Steps.{bind_bind, bind_end, bind_same, steps_more, steps_none, steps_to}
 
 abbrev pub Place_of : Type 0
 Place_of = Expression × List Token
-
-bind_end : (r : Got Expression) → (r >>= (λ x. Ok x)) ≡ r
-bind_end (Err s) = refl
-bind_end (Ok x) = refl
-
-pub bind_bind : (r : Got Expression) (f g : Place_of → Got Expression) → ((r >>= f) >>= g) ≡ (r >>= (λ x. f x >>= g))
-bind_bind (Err s) f g = refl
-bind_bind (Ok x) f g = refl
-
-pub bind_same : (r : Got Expression) (f g : Place_of → Got Expression) → ((x : Place_of) → f x ≡ g x) → (r >>= f) ≡ (r >>= g)
-bind_same (Err s) f g h = refl
-bind_same (Ok x) f g h = h x
-
--- why reading stopped is why all of it stops
-pub halts_then : (h : Halt) (r : Got Expression) (f : Place_of → Got Expression) → Halts h r → Halts h (r >>= f)
-halts_then (halts.Wrong n) r f e = ap (λ (z : Got Expression). z >>= f) e
-halts_then (halts.Deep n) r f e = ap (λ (z : Got Expression). z >>= f) e
-halts_then (halts.NoMemory a) r f e = tt
-
-pub halts_same : (h : Halt) (r s : Got Expression) → r ≡ s → Halts h r → Halts h s
-halts_same h r s e g = let P : Got Expression → Type 0 = λ z. Halts h z in subst P e g
 
 -- a level is the next tighter one and its operators, where no operator before an operand is its own
 step_by : (n l : ℕ) (tighter : Rule an_expression) (ts : List Token) (b c d e f : Bool) → (c ≡ true → Unseen (key.mark marks.Bang) ts) → (d ≡ true → Unseen key.minus ts)
@@ -68,12 +50,8 @@ unfolding level
 level_step n l ts u v = step_by n (suc l) (level l) ts (suc l == 1) (suc l == 2) (suc l == 4) (suc l == 13) (suc l == 15) (λ e. u (eqb-true (suc l) 2 e)) (λ e. v (eqb-true (suc l) 4 e))
 
 -- one level more
-climb_more : (n i j m : ℕ) (x : Place_of) → i + j ≡ m → climb n i (suc j) x ≡ (climb n i j x >>= (λ y. run n (tail (suc m) (level m) y.0) y.1))
-unfolding climb
-climb_more n i zero m x e = let s : i ≡ m = omega (arith, e) in bind_end (run n (tail (suc i) (level i) x.0) x.1) ∙ ap (λ k. run n (tail (suc k) (level k) x.0) x.1) s
-climb_more n i (suc j) m x e =
-    bind_same (run n (tail (suc i) (level i) x.0) x.1) (climb n (suc i) (suc j)) (λ y. climb n (suc i) j y >>= (λ z. run n (tail (suc m) (level m) z.0) z.1)) (λ y. climb_more n (suc i) j m y (omega (arith, e)))
-    ∙ sym (bind_bind (run n (tail (suc i) (level i) x.0) x.1) (climb n (suc i) j) (λ z. run n (tail (suc m) (level m) z.0) z.1))
+climb_more : (n i j m : ℕ) (x : Place_of) → i + j ≡ m → climb n i (suc j) x ≡ (climb n i j x >>= step n m)
+climb_more n i j m x e = steps_more (step n) i j x ∙ ap (λ k. climb n i j x >>= step n k) e
 
 -- where a level is known to begin with an operand of a tighter one, so does each looser one
 climbs : (n i j m : ℕ) (r : Got Expression) (ts : List Token) → i + j ≡ m → run n (level m) ts ≡ (r >>= climb n i j) → (suc m ≡ 2 → Unseen (key.mark marks.Bang) ts) → (suc m ≡ 4 → Unseen key.minus ts) → run n (level (suc m)) ts ≡ (r >>= climb n i (suc j))
@@ -85,13 +63,13 @@ climbs n i j m r ts e h u v =
 
 -- an operand that begins with no operator
 pub primary_climbs : (n l : ℕ) (ts : List Token) → (2 ≤ l → Unseen (key.mark marks.Bang) ts) → (4 ≤ l → Unseen key.minus ts) → run n (level l) ts ≡ (run n primary ts >>= climb n 0 l)
-unfolding level climb
+unfolding level steps
 primary_climbs n zero ts u v = sym (bind_end (run n primary ts))
 primary_climbs n (suc l) ts u v = climbs n 0 l l (run n primary ts) ts (omega arith) (primary_climbs n l ts (λ h. u (omega (arith, h))) (λ h. v (omega (arith, h)))) (λ e. u (omega (arith, e))) (λ e. v (omega (arith, e)))
 
 -- a `!`, and a `-` that is an operator
 pub bang_climbs : (n j l : ℕ) (t : Token) (p : Place) (ts : List Token) → 2 + j ≡ l → sees (key.mark marks.Bang) t ts ≡ Some p → Unseen key.minus (t ∷ ts) → run n (level l) (t ∷ ts) ≡ (run n (prefixed p op1.Not 2) ts >>= climb n 2 j)
-unfolding level climb
+unfolding level steps
 bang_climbs n zero l t p ts s e u =
     let z : l ≡ 2 = omega (arith, s) in
     ap (λ k. run n (level k) (t ∷ ts)) z
@@ -102,7 +80,7 @@ bang_climbs n (suc j) l t p ts s e u =
     ∙ climbs n 2 j (2 + j) (run n (prefixed p op1.Not 2) ts) (t ∷ ts) refl (bang_climbs n j (2 + j) t p ts refl e u) (λ g. absurd (omega (arith, g))) (λ g. u)
 
 pub minus_climbs : (n j l : ℕ) (t : Token) (p : Place) (ts : List Token) → 4 + j ≡ l → sees key.minus t ts ≡ Some p → run n (level l) (t ∷ ts) ≡ (run n (prefixed p op1.Neg 4) ts >>= climb n 4 j)
-unfolding level climb
+unfolding level steps
 minus_climbs n zero l t p ts s e =
     let z : l ≡ 4 = omega (arith, s) in
     ap (λ k. run n (level k) (t ∷ ts)) z
@@ -173,25 +151,8 @@ tail_none n k tighter a ts ne =
     tail_unseen n k tighter a ts (k == 1) (k == 2) (k == 4) (k == 13) (k == 15) (λ e. u.0 (eqb-true k 1 e)) (λ e. u.1 (eqb-true k 13 e)) (λ e. u.2 (eqb-true k 15 e)) u.3
 
 pub climb_none : (n i j : ℕ) (x : Place_of) → (i < next_level x.1 → i + j < next_level x.1) → climb n i j x ≡ Ok x
-unfolding climb
-climb_none n i zero x h = refl
-climb_none n i (suc j) x h =
-    let here : next_level x.1 ≡ suc i → ⊥ = λ e. omega (arith, e, h (omega (arith, e))) in
-    ap (λ (r : Got Expression). r >>= climb n (suc i) j) (tail_none n (suc i) (level i) x.0 x.1 here)
-    ∙ climb_none n (suc i) j x (λ le. omega (arith, h (omega (arith, le))))
+climb_none n i j x h = steps_none (step n) i j x (λ k ge lt. tail_none n (suc k) (level k) x.0 x.1 (λ e. omega (arith, e, ge, lt, h (omega (arith, e, ge)))))
 
 -- where the operator of one of the levels follows, the levels before it add nothing
 pub climb_to : (n i j m : ℕ) (x : Place_of) → next_level x.1 ≡ suc m → i ≤ m → m < i + j → climb n i j x ≡ climb n m (i + j - m) x
-unfolding climb
-climb_to n i zero m x e hi hj = absurd (omega arith)
-climb_to n i (suc j) m x e hi hj =
-    elim (eqb_tells i m) [
-      | inl h ↦ let s : suc j ≡ i + suc j - i = omega arith in ap (λ k. climb n i k x) s ∙ ap (λ k. climb n k (i + suc j - k) x) h.1
-      | inr h ↦
-          let ne : i ≡ m → ⊥ = h.1 in
-          let here : next_level x.1 ≡ suc i → ⊥ = λ g. ne (omega (arith, g, e)) in
-          let s : suc i + j ≡ i + suc j = omega arith in
-          ap (λ (r : Got Expression). r >>= climb n (suc i) j) (tail_none n (suc i) (level i) x.0 x.1 here)
-          ∙ climb_to n (suc i) j m x e (omega (arith, ne)) (omega arith)
-          ∙ ap (λ k. climb n m (k - m) x) s
-    ]
+climb_to n i j m x e hi hj = steps_to (step n) i j m x hi hj (λ k ge lt. tail_none n (suc k) (level k) x.0 x.1 (λ g. omega (arith, g, e, lt)))

@@ -22,40 +22,25 @@ use Rattle.smv_rules.specs.Expressions.{choosing, deeper, implying, level}
 use Rattle.smv_rules.proofs.Meeting.{run_within}
 use Rattle.smv_reader.specs.Climbing.{closed_at, closed_by, infix_at, next_level, reached, up}
 use Rattle.smv_reader.specs.Views.{expression_of}
-use Rattle.smv_reader.specs.Waiting.{all_resumed, resumed}
+use Rattle.smv_reader.specs.Steps.{resumed}
+use Rattle.smv_reader.specs.Waiting.{all_resumed, both_of, with_left}
+use Rattle.smv_reader.proofs.Steps.{bind_bind, halts_then, resumed_push, waiting_ends, waiting_halts}
 use Rattle.smv_reader.specs.declared.operators.Waiting.{Waiting}
-use Rattle.smv_reader.proofs.Climbing.{Place_of, climb_none, halts_same, halts_then}
+use Rattle.smv_reader.proofs.Climbing.{Place_of, climb_none}
 use Rattle.smv_reader.proofs.Turning.{closed_up, infix_less, infix_level, left_within, turn_closes, turn_joins, with_right}
-
--- two operands and the operator between them
-abbrev pub both_of : Expression → Op2 → Place → Expression → Rule an_expression
-both_of a o p b = deeper (two p o a.tree b.tree) (max a.depth b.depth)
-
-resumed_push : (n : ℕ) (ws : List Waiting) (w : Waiting) (r : Got Expression) → all_resumed n (ws ++ w ∷ []) r ≡ all_resumed n ws (resumed n w r)
-unfolding all_resumed
-resumed_push n [] w r = refl
-resumed_push n (v ∷ ws) w r = ap (resumed n v) (resumed_push n ws w r)
-
-resumed_halts : (h : Halt) (n : ℕ) (ws : List Waiting) (r : Got Expression) → Halts h r → Halts h (all_resumed n ws r)
-unfolding all_resumed
-resumed_halts h n [] r e = e
-resumed_halts h n (w ∷ ws) r e =
-    let b : Got Expression = all_resumed n ws r in
-    halts_then h (b >>= (λ b. run n (both_of (expression_of w.left) w.op w.place b.0) b.1)) (up n w.tighter w.loosest)
-    (halts_then h b (λ b. run n (both_of (expression_of w.left) w.op w.place b.0) b.1) (resumed_halts h n ws r e))
 
 -- nothing waits yet
 pub none_yet : (n : ℕ) (ws : List Waiting) (r out : Got Expression) → ws ≡ [] → out ≡ r → all_resumed n ws r ≡ out
-unfolding all_resumed
+unfolding resumed
 none_yet n ws r out z e = ap (λ ws. all_resumed n ws r) z ∙ sym e
 
 pub none_left : {W : Type 0} (k : ℕ) (ws vs : List W) → ws ≡ vs ++ [] → vs ≡ take (k - 1) ws → k ≡ 0 → ws ≡ []
 none_left k ws vs e r z = let s : k - 1 ≡ 0 = omega (arith, z) in e ∙ ap (λ vs. vs ++ []) (r ∙ ap (λ j. take j ws) s)
 
 -- one waits less, or one more behind a token less
-pub resumed_less : (n : ℕ) (ws vs : List Waiting) (w : Waiting) (x y : Place_of) → ws ≡ vs ++ w ∷ [] → run n (both_of (expression_of w.left) w.op w.place x.0) x.1 ≡ Ok y → 2 * length y.1 + length vs < 2 * length x.1 + length ws
+pub resumed_less : (n : ℕ) (ws vs : List Waiting) (w : Waiting) (x y : Place_of) → ws ≡ vs ++ w ∷ [] → run n (both_of w x.0) x.1 ≡ Ok y → 2 * length y.1 + length vs < 2 * length x.1 + length ws
 resumed_less n ws vs w x y z e =
-    let within : length y.1 ≤ length x.1 = left_within n an_expression (both_of (expression_of w.left) w.op w.place x.0) x.1 y.1 y.0 e in
+    let within : length y.1 ≤ length x.1 = left_within n an_expression (both_of w x.0) x.1 y.1 y.0 e in
     omega (arith, within, ap length z, length-append vs (w ∷ []))
 
 pub waits_less : {W : Type 0} (ws vs : List W) (w : W) (ts us rest : List Token) → vs ≡ ws ++ w ∷ [] → length us < length ts → length rest ≤ length us → 2 * length rest + length vs < 2 * length ts + length ws
@@ -70,24 +55,20 @@ ends : (n i l next : ℕ) (x : Place_of) → next ≡ next_level x.1 → (i < ne
 ends n i l next x e h = climb_none n i (l - i) x (λ g. omega (arith, e, g, h (omega (arith, e, g))))
 
 pub none_waits : (n i l next : ℕ) (ws : List Waiting) (x : Place_of) (out : Got Expression) → ws ≡ [] → next ≡ next_level x.1 → (i < next → l < next) → all_resumed n ws (up n i l x) ≡ out → out ≡ Ok x
-unfolding all_resumed
-none_waits n i l next ws x out z e h is = sym is ∙ ap (λ ws. all_resumed n ws (up n i l x)) z ∙ ends n i l next x e h
+none_waits n i l next ws x out z e h is = sym (waiting_ends (with_left n) ws (up n i l x) out z is) ∙ ends n i l next x e h
 
 -- the last that waits gets its right operand
-last_resumed : (n i l next : ℕ) (ws vs : List Waiting) (w : Waiting) (x : Place_of) (out : Got Expression) → ws ≡ vs ++ w ∷ [] → next ≡ next_level x.1 → (i < next → l < next) → all_resumed n ws (up n i l x) ≡ out → all_resumed n vs (run n (both_of (expression_of w.left) w.op w.place x.0) x.1 >>= up n w.tighter w.loosest) ≡ out
+last_resumed : (n i l next : ℕ) (ws vs : List Waiting) (w : Waiting) (x : Place_of) (out : Got Expression) → ws ≡ vs ++ w ∷ [] → next ≡ next_level x.1 → (i < next → l < next) → all_resumed n ws (up n i l x) ≡ out → all_resumed n vs (with_left n w x) ≡ out
 last_resumed n i l next ws vs w x out z e h is =
-    sym (resumed_push n vs w (Ok x))
+    sym (resumed_push (with_left n) vs w (Ok x))
     ∙ ap (all_resumed n (vs ++ w ∷ [])) (sym (ends n i l next x e h))
     ∙ ap (λ ws. all_resumed n ws (up n i l x)) (sym z)
     ∙ is
 
-pub resumes_halts : (h : Halt) (n i l next : ℕ) (ws vs : List Waiting) (w : Waiting) (x : Place_of) (out : Got Expression) → ws ≡ vs ++ w ∷ [] → next ≡ next_level x.1 → (i < next → l < next) → Halts h (run n (both_of (expression_of w.left) w.op w.place x.0) x.1) → all_resumed n ws (up n i l x) ≡ out → Halts h out
-resumes_halts h n i l next ws vs w x out z e g f is =
-    let r : Got Expression = run n (both_of (expression_of w.left) w.op w.place x.0) x.1 in
-    halts_same h (all_resumed n vs (r >>= up n w.tighter w.loosest)) out (last_resumed n i l next ws vs w x out z e g is)
-    (resumed_halts h n vs (r >>= up n w.tighter w.loosest) (halts_then h r (up n w.tighter w.loosest) f))
+pub resumes_halts : (h : Halt) (n i l next : ℕ) (ws vs : List Waiting) (w : Waiting) (x : Place_of) (out : Got Expression) → ws ≡ vs ++ w ∷ [] → next ≡ next_level x.1 → (i < next → l < next) → Halts h (run n (both_of w x.0) x.1) → all_resumed n ws (up n i l x) ≡ out → Halts h out
+resumes_halts h n i l next ws vs w x out z e g f is = waiting_halts h (with_left n) vs (with_left n w x) out (halts_then h (run n (both_of w x.0) x.1) (up n w.tighter w.loosest) f) (last_resumed n i l next ws vs w x out z e g is)
 
-pub resumes_goes : (n i l next : ℕ) (ws vs : List Waiting) (w : Waiting) (x y : Place_of) (out : Got Expression) → ws ≡ vs ++ w ∷ [] → next ≡ next_level x.1 → (i < next → l < next) → run n (both_of (expression_of w.left) w.op w.place x.0) x.1 ≡ Ok y → all_resumed n ws (up n i l x) ≡ out → all_resumed n vs (up n w.tighter w.loosest y) ≡ out
+pub resumes_goes : (n i l next : ℕ) (ws vs : List Waiting) (w : Waiting) (x y : Place_of) (out : Got Expression) → ws ≡ vs ++ w ∷ [] → next ≡ next_level x.1 → (i < next → l < next) → run n (both_of w x.0) x.1 ≡ Ok y → all_resumed n ws (up n i l x) ≡ out → all_resumed n vs (up n w.tighter w.loosest y) ≡ out
 resumes_goes n i l next ws vs w x y out z e h f is =
     ap (λ (r : Got Expression). all_resumed n vs (r >>= up n w.tighter w.loosest)) (sym f)
     ∙ last_resumed n i l next ws vs w x out z e h is
@@ -100,28 +81,26 @@ right_wanted n i l next j ws a o p ts us out e w hi hl is =
 
 pub waits_halts : (h : Halt) (n i l next j : ℕ) (ws : List Waiting) (a : Expression) (o : Op2) (p : Place) (ts us : List Token) (out : Got Expression) → Some (j, o, p, us) ≡ infix_at ts → next ≡ next_level ts → i < next → next ≤ l → Halts h (run n (level (j - 1)) us) → all_resumed n ws (up n i l (a, ts)) ≡ out → Halts h out
 waits_halts h n i l next j ws a o p ts us out e w hi hl g is =
-    halts_same h (all_resumed n ws (with_right n (j - 1) a o p us >>= up n (j - 1) l)) out (right_wanted n i l next j ws a o p ts us out e w hi hl is)
-    (resumed_halts h n ws (with_right n (j - 1) a o p us >>= up n (j - 1) l) (halts_then h (with_right n (j - 1) a o p us) (up n (j - 1) l) (halts_then h (run n (level (j - 1)) us) (λ b. run n (both_of a o p b.0) b.1) g)))
+    waiting_halts h (with_left n) ws (with_right n (j - 1) a o p us >>= up n (j - 1) l) out
+    (halts_then h (with_right n (j - 1) a o p us) (up n (j - 1) l) (halts_then h (run n (level (j - 1)) us) (λ b. run n (deeper (two p o a.tree b.0.tree) (max a.depth b.0.depth)) b.1) g))
+    (right_wanted n i l next j ws a o p ts us out e w hi hl is)
 
 pub waits_goes : (n i l next j : ℕ) (vs ws : List Waiting) (w : Waiting) (k : ℕ) (y : Place_of) (ts us : List Token) (out : Got Expression) → vs ≡ ws ++ w ∷ [] → w.loosest ≡ l → w.tighter ≡ j - 1 → Some (j, w.op, w.place, us) ≡ infix_at ts → next ≡ next_level ts → i < next → next ≤ l → run n (level (j - 1)) us ≡ up n k (j - 1) y → all_resumed n ws (up n i l (expression_of w.left, ts)) ≡ out → all_resumed n vs (up n k (j - 1) y) ≡ out
 waits_goes n i l next j vs ws w k y ts us out z s t e u hi hl g is =
+    let right : Got Expression = run n (level (j - 1)) us in
     ap (λ vs. all_resumed n vs (up n k (j - 1) y)) z
-    ∙ resumed_push n ws w (up n k (j - 1) y)
-    ∙ ap (λ r. all_resumed n ws (resumed n w r)) (sym g)
-    ∙ ap (λ m. all_resumed n ws ((run n (level (j - 1)) us >>= (λ b. run n (both_of (expression_of w.left) w.op w.place b.0) b.1)) >>= up n m w.loosest)) t
+    ∙ resumed_push (with_left n) ws w (up n k (j - 1) y)
+    ∙ ap (λ (r : Got Expression). all_resumed n ws (r >>= with_left n w)) (sym g)
+    ∙ ap (all_resumed n ws) (sym (bind_bind right (λ x. run n (both_of w x.0) x.1) (up n w.tighter w.loosest)))
+    ∙ ap (λ m. all_resumed n ws ((right >>= (λ x. run n (both_of w x.0) x.1)) >>= up n m w.loosest)) t
     ∙ ap (λ l. all_resumed n ws (with_right n (j - 1) (expression_of w.left) w.op w.place us >>= up n (j - 1) l)) s
     ∙ right_wanted n i l next j ws (expression_of w.left) w.op w.place ts us out e u hi hl is
 
 -- an operator that is none between operands
-closed_halts : (h : Halt) (n l : ℕ) (r : Result (ℕ × Place_of) Stop) → Halts h r → Halts h (closed_up n l r)
-closed_halts (halts.Wrong i) n l r e = ap (closed_up n l) e
-closed_halts (halts.Deep i) n l r e = ap (closed_up n l) e
-closed_halts (halts.NoMemory a) n l r e = tt
-
 pub closes_halts : (h : Halt) (n i l next : ℕ) (ws : List Waiting) (a : Expression) (ts : List Token) (out : Got Expression) → None ≡ infix_at ts → next ≡ next_level ts → i < next → next ≤ l → Halts h (closed_at n a ts) → all_resumed n ws (up n i l (a, ts)) ≡ out → Halts h out
 closes_halts h n i l next ws a ts out e w hi hl g is =
-    halts_same h (all_resumed n ws (closed_up n l (closed_at n a ts))) out (ap (all_resumed n ws) (sym (turn_closes n i l a ts (sym e) (omega (arith, w)) (omega (arith, w)))) ∙ is)
-    (resumed_halts h n ws (closed_up n l (closed_at n a ts)) (closed_halts h n l (closed_at n a ts) g))
+    waiting_halts h (with_left n) ws (closed_up n l (closed_at n a ts)) out (halts_then h (closed_at n a ts) (λ x. up n x.0 l x.1) g)
+    (ap (all_resumed n ws) (sym (turn_closes n i l a ts (sym e) (omega (arith, w)) (omega (arith, w)))) ∙ is)
 
 pub closes_goes : (n i l next k : ℕ) (ws : List Waiting) (a : Expression) (ts : List Token) (y : Place_of) (out : Got Expression) → None ≡ infix_at ts → next ≡ next_level ts → i < next → next ≤ l → closed_at n a ts ≡ Ok (k, y) → all_resumed n ws (up n i l (a, ts)) ≡ out → all_resumed n ws (up n k l y) ≡ out
 closes_goes n i l next k ws a ts y out e w hi hl g is =

@@ -14,7 +14,8 @@ use Rattle.smv_token.specs.declared.mark.Mark.TheVariants as marks
 use Rattle.smv_token.specs.declared.token.Token.{Token}
 use Rattle.smv_token.specs.declared.token.Lexeme.{Lexeme}
 use Rattle.smv_token.specs.declared.token.Lexeme.TheVariants as lexeme
-use Rattle.smv_grammar.specs.Forms.{begins_range, infix_of, level_of}
+use Rattle.smv_grammar.specs.Forms.{begins_range, infix_of}
+use Rattle.smv_grammar.specs.Levels.{level_of}
 use Rattle.smv_grammar.specs.IsMark.{is_mark, same_mark}
 use Rattle.smv_reader.specs.declared.halt.Halt.{Halt}
 use Rattle.smv_reader.specs.declared.halt.Halt.TheVariants as halts
@@ -30,7 +31,9 @@ use Rattle.smv_rules.specs.Table.{table}
 use Rattle.smv_rules.specs.Expressions.{choosing, chosen, deeper, implied, implying, joined, level, prefixed, primary, primary_from, selected}
 use Rattle.smv_rules.proofs.Meeting.{must_read, next_read, run_within, take_read}
 use Rattle.smv_reader.specs.Climbing.{Infix, Prefix, as_infix, climb, closed_at, closed_by, infix_at, level_by, marked_infix, marked_level, next_level, prefix_at, prefix_by, reached, tail, up}
-use Rattle.smv_reader.proofs.Climbing.{Place_of, bang_climbs, bind_bind, bind_same, climb_none, climb_to, halts_same, halts_then, minus_climbs, primary_climbs}
+use Rattle.smv_reader.proofs.Climbing.{Place_of, bang_climbs, climb_none, climb_to, minus_climbs, primary_climbs}
+use Rattle.smv_reader.specs.Steps.{steps}
+use Rattle.smv_reader.proofs.Steps.{bind_bind, bind_same, halts_same, halts_then}
 
 -- a part, where a nesting is left for it
 pub part_inner : (n : ℕ) (s : Sort) (p : Part s) (r : Rule s) (ts : List Token) → 1 ≤ n → run n (part s p r) ts ≡ run (n - 1) (table p) ts
@@ -274,7 +277,7 @@ abbrev pub with_right : ℕ → ℕ → Expression → Op2 → Place → List To
 with_right n m a o p us = run n (level m) us >>= (λ b. run n (deeper (two p o a.tree b.0.tree) (max a.depth b.0.depth)) b.1)
 
 joins_front : (n i l m : ℕ) (a : Expression) (o : Op2) (p : Place) (t : Token) (us : List Token) → sees (key.operator (suc m)) t us ≡ Some (o, p) → next_level (t ∷ us) ≡ suc m → is_joined (suc m) ≡ true → i ≤ m → suc m ≤ l → up n i l (a, t ∷ us) ≡ (with_right n m a o p us >>= up n m l)
-unfolding climb run
+unfolding steps run
 joins_front n i l m a o p t us e own b hi hl =
     let s : i + (l - i) - m ≡ l - m = omega arith in
     let w : l - m ≡ suc (l - suc m) = omega arith in
@@ -316,7 +319,7 @@ reached_up n k l (Ok x) = refl
 reached_up n k l (Err s) = refl
 
 square_up : (n l : ℕ) (a : Expression) (t : Token) (us : List Token) → sees (key.mark marks.OpenSquare) t us ≡ Some t.place → 1 ≤ l → up n 0 l (a, t ∷ us) ≡ (run n (part an_expression (bits a t.place) (too_deep an_expression)) us >>= up n 0 l)
-unfolding climb
+unfolding steps
 square_up n l a t us e hl =
     let w : l - 0 ≡ suc (l - 1) = omega arith in
     let go : Place_of → Got Expression = climb n 1 (l - 1) in
@@ -328,7 +331,7 @@ square_up n l a t us e hl =
     ∙ bind_same r (λ x. run n (selected x.0) x.1 >>= go) (up n 0 l) (λ x. ap (λ k. climb n 0 k x) (sym w))
 
 question_up : (n i l : ℕ) (a : Expression) (t : Token) (us : List Token) → sees (key.mark marks.Question) t us ≡ Some t.place → next_level (t ∷ us) ≡ 13 → i < 13 → 13 ≤ l → up n i l (a, t ∷ us) ≡ (run n (choosing a t.place) us >>= up n 13 l)
-unfolding climb
+unfolding steps
 question_up n i l a t us e own hi hl =
     let s : i + (l - i) - 12 ≡ suc (l - 13) = omega arith in
     climb_to n i (l - i) 12 (a, t ∷ us) own (omega arith) (omega arith)
@@ -336,7 +339,7 @@ question_up n i l a t us e own hi hl =
     ∙ ap (λ (r : Got Expression). r >>= climb n 13 (l - 13)) (take_read n an_expression (key.mark marks.Question) (λ p. choosing a p) (gives an_expression a) t t.place us e)
 
 arrow_up : (n i l : ℕ) (a : Expression) (t : Token) (us : List Token) → sees (key.mark marks.Arrow) t us ≡ Some t.place → next_level (t ∷ us) ≡ 15 → i < 15 → 15 ≤ l → up n i l (a, t ∷ us) ≡ (run n (implying a t.place) us >>= up n 15 l)
-unfolding climb
+unfolding steps
 arrow_up n i l a t us e own hi hl =
     let s : i + (l - i) - 14 ≡ suc (l - 15) = omega arith in
     climb_to n i (l - i) 14 (a, t ∷ us) own (omega arith) (omega arith)

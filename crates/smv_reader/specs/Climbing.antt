@@ -1,5 +1,5 @@
 -- How an expression goes on behind its first operand, from tight levels to loose ones.
-use Rattle.std.specs.Prelude.{◌≡◌, ◌==◌, ◌-◌, ℕ, zero, suc, List, [], ◌∷◌, Option, Some, None, Result, Ok, Err, if◌then◌else◌, nat_lt, length}
+use Rattle.std.specs.Prelude.{◌≡◌, ◌==◌, ◌-◌, ℕ, suc, List, [], ◌∷◌, Option, Some, None, Result, Ok, Err, if◌then◌else◌, nat_lt, length}
 use denote.Ref.{Bor}
 use Rattle.smv_tree.specs.declared.place.Place.{Place}
 use Rattle.smv_tree.specs.declared.expr.Op1.{Op1}
@@ -8,7 +8,8 @@ use Rattle.smv_tree.specs.declared.expr.Op2.{Op2}
 use Rattle.smv_token.specs.declared.mark.Mark.{Mark}
 use Rattle.smv_token.specs.declared.mark.Mark.TheVariants as marks
 use Rattle.smv_token.specs.declared.token.Token.{Token}
-use Rattle.smv_grammar.specs.Forms.{begins_range, infix_of, level_of}
+use Rattle.smv_grammar.specs.Forms.{begins_range, infix_of}
+use Rattle.smv_grammar.specs.Levels.{level_of}
 use Rattle.smv_reader.specs.declared.halt.Halt.{Halt}
 use Rattle.smv_reader.specs.Halts.{Halts}
 use Rattle.smv_rules.specs.Reading.{Stop, wrong, ◌>>=◌, Got}
@@ -17,6 +18,7 @@ use Rattle.smv_rules.specs.Rules.{Rule, gives, too_deep, part, bits}
 use Rattle.smv_rules.specs.Running.{run}
 use Rattle.smv_rules.specs.Sorts.{Expression, an_expression}
 use Rattle.smv_rules.specs.Expressions.{choosing, chosen, implied, implying, joined, level, selected}
+use Rattle.smv_reader.specs.Steps.{steps}
 use Rattle.smv_reader.specs.Views.{expression_of}
 use Rattle.smv_reader.specs.declared.parsed.Parsed.{Parsed}
 
@@ -30,10 +32,12 @@ tail l tighter a =
     else (if l == 15 then implied a
     else joined l tighter a))))
 
+abbrev pub step : ℕ → ℕ → Expression × List Token → Got Expression
+step n i x = run n (tail (suc i) (level i) x.0) x.1
+
 -- the operators of so many levels behind an expression of a level
-unfoldable pub climb : ℕ → ℕ → ℕ → Expression × List Token → Got Expression
-climb n i zero x = Ok x
-climb n i (suc j) x = run n (tail (suc i) (level i) x.0) x.1 >>= climb n (suc i) j
+abbrev pub climb : ℕ → ℕ → ℕ → Expression × List Token → Got Expression
+climb n i j x = steps (step n) i j x
 
 -- the operators of the levels above the first, up to the second
 abbrev pub up : ℕ → ℕ → ℕ → Expression × List Token → Got Expression

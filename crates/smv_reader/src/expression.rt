@@ -1,7 +1,7 @@
 ghost use Rattle.std.specs.Prelude.{◌≡◌, ◌<◌, ◌≤◌, ◌∷◌, [], IfOk, length};
 ghost use Rattle.smv_tree.specs.Trees.{expr_tree, next, one};
 ghost use Rattle.smv_reader.specs.Halts.{Halts, Reads};
-ghost use Rattle.smv_rules.specs.Expressions.{applied, branch, choosing, counted, enclosed, expr, implying, level, listed, listed_branches, more_branches, more_operands, nested, no_branches, opened, operands, prefixed, primary, primary_from, side, widened};
+ghost use Rattle.smv_rules.specs.Expressions.{applied, branch, choosing, counted, enclosed, expr, implying, last_semicolon, level, listed, listed_branches, more_branches, more_operands, nested, no_branches, opened, operands, prefixed, primary, primary_from, side, widened};
 ghost use Rattle.smv_rules.specs.Keys.{begins_with, operand};
 ghost use Rattle.smv_rules.specs.Rules.{bits, inside, must, part, too_deep};
 ghost use Rattle.smv_rules.specs.Sorts.{an_expression};
@@ -281,6 +281,23 @@ impl Reader {
         Ok((branches, rest))
     }
 
+    /// The `;` before the end of a case.
+    #[tactic(auto, unfolding(smv_rules::specs::Running::run, smv_rules::specs::Keys::sees, smv_grammar::specs::IsMark::same_mark))]
+    fn last_semicolon(self, tokens: &[Token]) -> Result<(Place, &[Token]), Halt>
+        ensures { Reads (λ x. (x.0, x.1.now)) result (run self.room last_semicolon tokens.now) }
+    {
+        let [first, rest @ ..] = tokens else {
+            return Err(Halt::Wrong(0));
+        };
+        if !begins_with(Mark::Esac, rest) {
+            return Err(Halt::Wrong(tokens.len()));
+        }
+        match first.lexeme {
+            Lexeme::Mark(found) if Mark::Semicolon == found => Ok((first.place, rest)),
+            _ => Err(Halt::Wrong(tokens.len())),
+        }
+    }
+
     /// The branches of a case and its end.
     #[cycle(expression)]
     #[tactic(auto, unfolding(smv_rules::specs::Running::run))]
@@ -289,7 +306,7 @@ impl Reader {
     {
         let (first, rest) = self.first_branch(tokens)?;
         let (branches, rest) = self.more_branches(first, rest)?;
-        let (_, rest) = self.expect(Mark::Semicolon, rest)?;
+        let (_, rest) = self.last_semicolon(rest)?;
         let (_, rest) = self.expect(Mark::Esac, rest)?;
         self.deeper(Expr::Case(place, branches.branches), branches.depth, rest)
     }

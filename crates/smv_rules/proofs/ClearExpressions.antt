@@ -12,14 +12,14 @@ use Rattle.smv_rules.specs.Keys as key
 use Rattle.smv_rules.specs.Sorts.{Expression, Sort, an_expression, an_integer}
 use Rattle.smv_rules.specs.Rules.{Rule, gives, too_deep, part, again, inside, ◌>>=◌}
 use Rattle.smv_rules.specs.Expressions.{an_int, deeper, joined, mark, primary, primary_from, range_from}
-use Rattle.smv_rules.proofs.Plain.{Begins, Clear, Starts, clear_less, starts_law}
+use Rattle.smv_rules.proofs.Plain.{Begins, Clear, Starts, apart, clear_less, goes_starts}
 use Rattle.smv_rules.proofs.Firsts.{Closed, closed_less, closed_mark, closed_operator, number_no_mark, operator_closed, seen_closed, tail_level}
 
 abbrev Set : Type 1
 Set = List Token → Type 0
 
 pub begins_starts : (n : ℕ) (s : Sort) {X : Type 0} (f : X → Rule s) (C : List Token → Type 0) (us : List Token) (h : Begins n s f C us) → Starts n (f h.from) C us
-begins_starts n s f C us h = starts_law h.follows C h.may_follow
+begins_starts n s f C us h = goes_starts n s (f h.from) C us h.goes
 
 pub deeper_clear : (n : ℕ) (x : Tree) (d : ℕ) (C : List Token → Type 0) → Clear n (deeper x d) C
 unfolding Clear
@@ -46,7 +46,7 @@ mark_begins n s k f l C us lt h = seen_closed k l us lt (begins_starts n s (λ a
 -- integers and ranges
 pub int_clear : (n : ℕ) (C : List Token → Type 0) → Clear n an_int C
 unfolding Clear Starts
-int_clear n C = (((λ p. tt), tt, (λ us rest x i j c. number_no_mark marks.Minus us (begins_starts n an_integer _ C us (starts_law j (Begins n an_integer _ C) c)))), (λ a. ((λ p. tt), (λ b. tt))))
+int_clear n C = (((λ p. tt), tt, apart (λ us i b. number_no_mark marks.Minus us (begins_starts n an_integer _ C us b))), (λ a. ((λ p. tt), (λ b. tt))))
 
 range_clear : (n : ℕ) (p : Place) (b : Bool) (v : ℕ) (C : List Token → Type 0) → Clear n (range_from p b v) C
 unfolding Clear
@@ -62,7 +62,7 @@ primary_clear n inner = λ o. by o.0 o.1 where
   by : (o : Primary) (p : Place) → Clear n (primary_from o p) (Closed 0)
   by (truth b) p = tt
   by (path o) p = path_clear n o p
-  by (digits v) p = ((λ q. range_clear n p false v (Closed 0)), tt, (λ us rest x i j c. closed_mark marks.Dots 0 us (omega arith) (starts_law j (Closed 0) c)))
+  by (digits v) p = ((λ q. range_clear n p false v (Closed 0)), tt, apart (λ us i b. closed_mark marks.Dots 0 us (omega arith) b))
   by below p = ((λ q. tt), (λ v. ((λ q. tt), (λ q. range_clear n p true v (Closed 0)))))
   by (word w) p = tt
   by (opens o) p = inner o p

@@ -19,7 +19,7 @@ use Rattle.smv_rules.specs.Rules.{Rule, gives, too_deep, again, ◌>>=◌}
 use Rattle.smv_rules.specs.Expressions.{level, mark}
 use Rattle.smv_rules.specs.Formulas.{deeper, formula_level, implied, joined, opened, operand, side}
 use Rattle.smv_rules.specs.Table.{table}
-use Rattle.smv_rules.proofs.Plain.{Begins, Clear, Seen, Starts, clear_less, starts_law}
+use Rattle.smv_rules.proofs.Plain.{Begins, Clear, Seen, Starts, apart, clear_less}
 use Rattle.smv_rules.proofs.Firsts.{Closed, lexeme_level, seen_is, tail_level}
 use Rattle.smv_rules.proofs.ClearExpressions.{begins_starts}
 use Rattle.smv_rules.proofs.ClearLevels.{levels_clear}
@@ -135,9 +135,9 @@ operand_clear n nest = (
   (
     (λ p. (clear_less n (opened 6) (FormulaClosed 6) _ (λ us b. round_begins n _ _ us b) nest.all, (λ a. ((λ q. tt), (λ q. deeper_clear n _ _ _))))),
     (clear_less n (level 10) (Closed 10) _ (λ us b. formula_atom 1 us (begins_starts n a_formula _ (FormulaClosed 1) us b)) (levels_clear n).ten, (λ a. tt)),
-    (λ us rest x i j c. i),
+    apart (λ us i b. i),
   ),
-  (λ us rest x i j c. i),
+  apart (λ us i b. i),
 )
 
 loop_closed : (n l : ℕ) (f : Formula → FormOp → Rule a_formula) (us : List Token) → Begins n a_formula (λ a. again a_formula (key.connective (suc l)) f a) (FormulaClosed (suc l)) us → FormulaClosed l us
@@ -165,7 +165,7 @@ implied_clear : (n : ℕ) → Nested n → (tighter : Rule a_formula) → Clear 
 unfolding Clear Starts
 implied_clear n nest tighter h = (
   clear_less n tighter (FormulaClosed 5) (Begins n a_formula implied (FormulaClosed 6)) (implied_closed n) h,
-  (λ a. ((λ p. (clear_less n side (FormulaClosed 6) _ (λ us b. deeper_begins n _ _ _ us b) nest.right, (λ b. deeper_clear n _ _ _))), tt, (λ us rest x i j k. closed_connective 6 us (starts_law j (FormulaClosed 6) k)))),
+  (λ a. ((λ p. (clear_less n side (FormulaClosed 6) _ (λ us b. deeper_begins n _ _ _ us b) nest.right, (λ b. deeper_clear n _ _ _))), tt, apart (λ us i b. closed_connective 6 us b))),
 )
 
 levels_from : (n : ℕ) → Nested n → Levels n

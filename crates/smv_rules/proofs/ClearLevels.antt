@@ -1,25 +1,23 @@
 -- What follows an expression of a level tells where its parts end, at each level and in each nesting.
-use Rattle.std.proofs.Common.{◌≡◌, ◌<◌, ℕ, zero, suc, Bool, true, false, cond, List, [], ◌∷◌, Option, Some, None, ◌⊎◌, refl, sym, ◌∙◌, ap, subst, inl, inr, arith}
+use Rattle.std.proofs.Common.{◌≡◌, ◌<◌, ℕ, zero, suc, Bool, true, false, cond, List, [], ◌∷◌, Option, None, ◌⊎◌, refl, inl, inr, arith}
 use Rattle.smv_tree.specs.declared.place.Place.{Place}
 use Rattle.smv_tree.specs.Trees.{arms}
 use Rattle.smv_tree.specs.Trees as tree
 use Rattle.smv_token.specs.declared.mark.Mark.{Mark}
 use Rattle.smv_token.specs.declared.mark.Mark.TheVariants as marks
 use Rattle.smv_token.specs.declared.token.Token.{Token}
-use Rattle.smv_token.specs.declared.token.Lexeme.{Lexeme}
 use Rattle.smv_token.specs.declared.token.Lexeme.TheVariants as lexeme
-use Rattle.smv_grammar.specs.Forms.{begins_range, capped, is_number, is_dots}
-use Rattle.smv_grammar.specs.IsMark.{is_mark, same_mark}
+use Rattle.smv_grammar.specs.Forms.{capped}
+use Rattle.smv_grammar.specs.IsMark.{is_mark}
 use Rattle.smv_rules.specs.Keys.{Key, Opener, Primary, Unseen, begins_with, below, if_there, number_of, opens, present, primary_by, primary_of, round, set, branches, count, next, function, widen, const, sees, with_place}
 use Rattle.smv_rules.specs.Keys as key
-use Rattle.smv_rules.specs.Sorts.{Branches, Expression, Gift, Operands, Sort, an_expression, some_branches, some_operands}
+use Rattle.smv_rules.specs.Sorts.{Branches, Expression, Operands, Sort, an_expression, some_branches, some_operands}
 use Rattle.smv_rules.specs.Rules.{Rule, gives, too_deep, part, again, inside, bits, ◌>>=◌}
-use Rattle.smv_rules.specs.Expressions.{bracketed, branch, chosen, deeper, expr, no_branches, implied, level, mark, nested, number, opened, operands, prefixed, primary, primary_from, range_from, selected, selecting, side}
+use Rattle.smv_rules.specs.Expressions.{bracketed, branch, chosen, deeper, expr, no_branches, implied, last_semicolon, level, mark, nested, opened, operands, prefixed, selected, selecting, side}
 use Rattle.smv_rules.specs.Table.{table}
-use Rattle.smv_rules.specs.Follows.{Follows, plain}
-use Rattle.smv_rules.proofs.Plain.{Begins, Clear, Seen, Starts, clear_less, starts_law}
-use Rattle.smv_rules.proofs.Inverting.{Inverted, inverted}
-use Rattle.smv_rules.proofs.Firsts.{Closed, closed_less, closed_mark, is_mark_true, primary_no_mark, seen_closed, seen_other, tail_level}
+use Rattle.smv_rules.proofs.Plain.{Begins, Clear, Seen, Starts, apart, clear_less}
+use Rattle.smv_rules.proofs.Firsts.{Closed, closed_less, closed_mark, primary_no_mark, seen_closed, seen_other, tail_level}
+use Rattle.smv_rules.proofs.Minus.{minus_led, tight_no_minus}
 use Rattle.smv_rules.proofs.ClearExpressions.{begins_starts, deeper_begins, deeper_clear, infix_clear, int_clear, mark_begins, primary_clear}
 
 -- the parts that are nested once more
@@ -68,85 +66,15 @@ unfolding Clear level primary_by
 bang_clear n nest h = (
   (λ p. prefixed_clear n 2 p _ nest.two),
   clear_less n (level 1) (Closed 1) (Closed 2) (λ us c. closed_less 2 1 us (omega arith) c) h,
-  (λ us rest x i j c. primary_no_mark marks.Bang us refl (level_one_starts n (Closed 2) us (starts_law j (Closed 2) c))),
+  apart (λ us i b. primary_no_mark marks.Bang us refl (level_one_starts n (Closed 2) us b)),
 )
-
--- A `-` at the front of an expression of a level tighter than 4 begins a range.
-counted_there : (x : Lexeme) (n : ℕ) → number_of x ≡ Some n → is_number x ≡ true
-counted_there (lexeme.Number m) n e = refl
-counted_there (lexeme.Mark m) n e = absurd (cc)
-counted_there (lexeme.Name m) n e = absurd (cc)
-counted_there (lexeme.Word m) n e = absurd (cc)
-
-range_there : (n : ℕ) (f : ℕ → Place → Rule an_expression) (ts rest : List Token) (x : Expression) → Follows plain n an_expression (number >>= (λ v. mark marks.Dots >>= f v)) ts rest x → begins_range ts ≡ true
-unfolding Inverted sees
-range_there n f ts rest x h =
-    let c = inverted h in
-    let b = inverted c.before in
-    let s = inverted b.follows in
-    let d = inverted c.behind in
-    let e = inverted d.before in
-    let P : List Token → Type 0 = λ us. begins_range us ≡ true in
-    subst P (sym (b.is ∙ ap (λ us. b.first ∷ us) (s ∙ e.is))) (both b.first.lexeme e.first.lexeme e.others (counted_there b.first.lexeme b.load b.seen) (is_mark_true marks.Dots e.first.lexeme (seen_there (is_mark marks.Dots e.first.lexeme) e.first.place e.load e.seen))) where
-      seen_there : (t : Bool) (p q : Place) → if_there t p ≡ Some q → t ≡ true
-      seen_there true p q e = refl
-      seen_there false p q e = absurd (cc)
-
-      both : (a b : Lexeme) (us : List Token) → is_number a ≡ true → b ≡ lexeme.Mark marks.Dots → cond (is_number a) (is_dots b) false ≡ true
-      both a b us i e = ap (λ t. cond t (is_dots b) false) i ∙ ap is_dots e
-
--- a primary expression that begins with a `-`
-primary_minus : (n : ℕ) (o : Primary) (p : Place) (ts rest : List Token) (x : Expression) → primary_by marks.Minus ≡ Some o → Follows plain n an_expression (primary_from o p) ts rest x → begins_range ts ≡ true
-unfolding primary_by
-primary_minus n below p ts rest x e h = range_there n (λ v q. range_from p true v) ts rest x h
-primary_minus n o p ts rest x e h = absurd (cc)
-
-some_same : {X : Type 0} (a b : X) → Some a ≡ Some b → a ≡ b
-some_same a b e = cc
-
-first_minus : (x : Lexeme) (p : Place) (o : Primary × Place) → x ≡ lexeme.Mark marks.Minus → with_place (primary_of x) p ≡ Some o → primary_by marks.Minus ≡ Some o.0
-first_minus x p o e h = by (primary_of x) (ap primary_of e) h where
-  by : (q : Option Primary) → q ≡ primary_by marks.Minus → with_place q p ≡ Some o → primary_by marks.Minus ≡ Some o.0
-  by None i g = absurd (cc)
-  by (Some y) i g = sym i ∙ ap Some (ap (λ (z : Primary × Place). z.0) (some_same (y, p) o g))
-
-unseen_minus : (t : Token) (ts : List Token) → (t.lexeme ≡ lexeme.Mark marks.Minus → begins_range ts ≡ true) → Unseen key.minus (t ∷ ts)
-unfolding sees
-unseen_minus t ts h = by (begins_range ts) (is_mark marks.Minus t.lexeme) refl refl where
-  by : (b c : Bool) → begins_range ts ≡ b → is_mark marks.Minus t.lexeme ≡ c → cond b None (if_there c t.place) ≡ None
-  by true c i j = refl
-  by false false i j = refl
-  by false true i j = absurd (let r = h (is_mark_true marks.Minus t.lexeme j) in cc)
-
-primary_no_minus : (n : ℕ) (us rest : List Token) (x : Expression) → Follows plain n an_expression primary us rest x → Unseen key.minus us
-unfolding Inverted sees
-primary_no_minus n us rest x h =
-    let b = inverted h in
-    let P : List Token → Type 0 = λ vs. Unseen key.minus vs in
-    subst P (sym b.is) (unseen_minus b.first b.others (λ e. primary_minus n b.load.0 b.load.1 b.others rest x (first_minus b.first.lexeme b.first.place b.load e b.seen) b.follows))
-
-bang_not : (x : Lexeme) (p q : Place) → x ≡ lexeme.Mark marks.Minus → if_there (is_mark marks.Bang x) p ≡ Some q → ⊥
-unfolding same_mark
-bang_not x p q e h = absurd (let s = ap (λ y. if_there (is_mark marks.Bang y) p) e in cc)
-
-tight_no_minus : (n : ℕ) (us rest : List Token) (x : Expression) → Follows plain n an_expression (level 3) us rest x → Unseen key.minus us
-unfolding Inverted level sees
-tight_no_minus n us rest x h =
-    let c = inverted h in
-    two us c.between c.given (inverted c.before) where
-      one : (us vs : List Token) (a : Expression) → Follows plain n an_expression (level 1) us vs a → Unseen key.minus us
-      one us vs a g = let d = inverted g in primary_no_minus n us d.between d.given d.before
-
-      two : (us vs : List Token) (a : Expression) → Inverted plain n (level 2) us vs a → Unseen key.minus us
-      two us vs a (inl b) = let P : List Token → Type 0 = λ ws. Unseen key.minus ws in subst P (sym b.is) (unseen_minus b.first b.others (λ e. absurd (bang_not b.first.lexeme b.first.place b.load e b.seen)))
-      two us vs a (inr g) = one us vs a g
 
 minus_clear : (n : ℕ) → Nested n → Clear n (level 3) (Closed 3) → Clear n (level 4) (Closed 4)
 unfolding Clear level
 minus_clear n nest h = (
   (λ p. prefixed_clear n 4 p _ nest.four),
   clear_less n (level 3) (Closed 3) (Closed 4) (λ us c. closed_less 4 3 us (omega arith) c) h,
-  (λ us rest x i j c. tight_no_minus n us rest x j),
+  record { ends = λ us rest x i j c. tight_no_minus n us rest x j; leads = λ t us rest p i j l e. minus_led n h t us rest p j e },
 )
 
 -- a condition and its branches
@@ -161,7 +89,7 @@ chosen_clear : (n : ℕ) → Nested n → (tighter : Rule an_expression) → Cle
 unfolding Clear Starts tail_level
 chosen_clear n nest tighter h = (
   clear_less n tighter (Closed 12) (Begins n an_expression chosen (Closed 13)) (chosen_closed n) h,
-  (λ c. ((λ p. (clear_less n (side 15) (Closed 15) _ (λ us b. mark_begins n an_expression marks.Colon _ 15 _ us (omega arith) b) nest.fifteen, (λ a. ((λ q. tt), (λ q. (clear_less n (side 13) (Closed 13) _ (λ us b. deeper_begins n _ _ _ us b) nest.thirteen, (λ b. deeper_clear n _ _ _))))))), tt, (λ us rest x i j k. closed_mark marks.Question 13 us (omega arith) (starts_law j (Closed 13) k)))),
+  (λ c. ((λ p. (clear_less n (side 15) (Closed 15) _ (λ us b. mark_begins n an_expression marks.Colon _ 15 _ us (omega arith) b) nest.fifteen, (λ a. ((λ q. tt), (λ q. (clear_less n (side 13) (Closed 13) _ (λ us b. deeper_begins n _ _ _ us b) nest.thirteen, (λ b. deeper_clear n _ _ _))))))), tt, apart (λ us i b. closed_mark marks.Question 13 us (omega arith) b))),
 )
 
 -- the right side of an arrow
@@ -176,7 +104,7 @@ implied_clear : (n : ℕ) → Nested n → (tighter : Rule an_expression) → Cl
 unfolding Clear Starts tail_level
 implied_clear n nest tighter h = (
   clear_less n tighter (Closed 14) (Begins n an_expression implied (Closed 15)) (implied_closed n) h,
-  (λ a. ((λ p. (clear_less n (side 15) (Closed 15) _ (λ us b. deeper_begins n _ _ _ us b) nest.fifteen, (λ b. deeper_clear n _ _ _))), tt, (λ us rest x i j k. closed_mark marks.Arrow 15 us (omega arith) (starts_law j (Closed 15) k)))),
+  (λ a. ((λ p. (clear_less n (side 15) (Closed 15) _ (λ us b. deeper_begins n _ _ _ us b) nest.fifteen, (λ b. deeper_clear n _ _ _))), tt, apart (λ us i b. closed_mark marks.Arrow 15 us (omega arith) b))),
 )
 
 -- all levels within a nesting
@@ -245,27 +173,17 @@ further_seen (t ∷ ts) h = by (begins_with marks.Esac ts) h where
   by true e = absurd (cc)
   by false e = e
 
-case_ends : (n : ℕ) (s : Sort) (f : Place → Place → Rule s) (us rest : List Token) (x : Gift s) → Follows plain n s (mark marks.Semicolon >>= (λ q. mark marks.Esac >>= f q)) us rest x → Unseen key.further us
-unfolding Inverted sees
-case_ends n s f us rest x h =
-    let c = inverted h in
-    let b = inverted c.before in
-    let i = inverted b.follows in
-    let d = inverted c.behind in
-    let e = inverted d.before in
-    let P : List Token → Type 0 = λ vs. Unseen key.further vs in
-    subst P (sym (b.is ∙ ap (λ vs. b.first ∷ vs) (i ∙ e.is))) (at_end (is_mark marks.Esac e.first.lexeme) (if_there (is_mark marks.Semicolon b.first.lexeme) b.first.place) (esac_there (is_mark marks.Esac e.first.lexeme) e.first.place e.load e.seen)) where
-      esac_there : (t : Bool) (p q : Place) → if_there t p ≡ Some q → t ≡ true
-      esac_there true p q e = refl
-      esac_there false p q e = absurd (cc)
-
-      at_end : (t : Bool) (o : Option Place) → t ≡ true → cond t None o ≡ None
-      at_end true o e = refl
-      at_end false o e = absurd (cc)
+closing_seen : (us : List Token) → Seen key.closing us → Seen (key.mark marks.Semicolon) us × Unseen key.further us
+unfolding sees
+closing_seen [] h = absurd h
+closing_seen (t ∷ ts) h = by (begins_with marks.Esac ts) (if_there (is_mark marks.Semicolon t.lexeme) t.place) h where
+  by : (b : Bool) (o : Option Place) → present (cond b o None) ≡ true → (present o ≡ true) × (cond b None o ≡ None)
+  by true o e = (e, refl)
+  by false o e = absurd (cc)
 
 -- the end of a case, and further branches before it
 abbrev case_end : Place → Branches → Rule an_expression
-case_end p bs = mark marks.Semicolon >>= (λ q. mark marks.Esac >>= (λ r. deeper (tree.cases p (arms bs.arms)) bs.depth))
+case_end p bs = last_semicolon >>= (λ q. mark marks.Esac >>= (λ r. deeper (tree.cases p (arms bs.arms)) bs.depth))
 
 abbrev case_loop : Branches → Rule some_branches
 case_loop bs = again some_branches key.further (λ bs q. branch bs) bs
@@ -273,14 +191,14 @@ case_loop bs = again some_branches key.further (λ bs q. branch bs) bs
 case_closed : (n : ℕ) (p : Place) (C : List Token → Type 0) (us : List Token) → Seen key.further us ⊎ Begins n an_expression (case_end p) C us → Closed 15 us
 unfolding Starts tail_level
 case_closed n p C us (inl s) = seen_closed marks.Semicolon 15 us (omega arith) (further_seen us s)
-case_closed n p C us (inr b) = seen_closed marks.Semicolon 15 us (omega arith) (begins_starts n an_expression (case_end p) C us b)
+case_closed n p C us (inr b) = seen_closed marks.Semicolon 15 us (omega arith) (closing_seen us (begins_starts n an_expression (case_end p) C us b)).0
 
 case_clear : (n : ℕ) (p : Place) (C : List Token → Type 0) → Clear n expr (Closed 15) → Clear n (nested branches p) C
 unfolding Clear Starts
 case_clear n p C h = (
   branch_clear n no_branches (Begins n an_expression (λ b. case_loop b >>= case_end p) C) (λ us b. case_closed n p C us (begins_starts n an_expression (λ b. case_loop b >>= case_end p) C us b)) h,
   (λ b. (
-    ((λ bs q. branch_clear n bs (Begins n some_branches case_loop (Begins n an_expression (case_end p) C)) (λ us d. case_closed n p C us (begins_starts n some_branches case_loop (Begins n an_expression (case_end p) C) us d)) h), (λ us d. case_ends n an_expression (λ q r. deeper (tree.cases p (arms d.from.arms)) d.from.depth) us d.rest d.what d.follows)),
+    ((λ bs q. branch_clear n bs (Begins n some_branches case_loop (Begins n an_expression (case_end p) C)) (λ us d. case_closed n p C us (begins_starts n some_branches case_loop (Begins n an_expression (case_end p) C) us d)) h), (λ us d. (closing_seen us (begins_starts n an_expression (case_end p) C us d)).1)),
     (λ bs. ((λ q. tt), (λ q. ((λ r. tt), (λ r. deeper_clear n (tree.cases p (arms bs.arms)) bs.depth C))))),
   )),
 )

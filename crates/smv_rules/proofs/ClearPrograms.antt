@@ -15,12 +15,13 @@ use Rattle.smv_grammar.specs.IsMark.{is_mark}
 use Rattle.smv_grammar.specs.Formulas.{of_atom, start_at, start_of, joining_by, joining_of, holds_temporal}
 use Rattle.smv_rules.specs.Keys.{Heading, Key, Target, Unseen, by_mark, heading_by, if_there, is_bracket, mark_of, name_of, number_of, prefix_of, present, primary_by, sees, target_by, target_of, with_place, variables, definitions, assignments, constraints, properties, itself, of_moment}
 use Rattle.smv_rules.specs.Keys as key
-use Rattle.smv_rules.specs.Sorts.{a_shape, a_value, an_integer, some_bodies, some_formals, some_parts}
+use Rattle.smv_rules.specs.Follows.{Follows, plain}
+use Rattle.smv_rules.specs.Sorts.{Branches, a_shape, a_value, an_integer, some_bodies, some_branches, some_formals, some_parts}
 use Rattle.smv_rules.specs.Rules.{Rule, gives, again}
-use Rattle.smv_rules.specs.Expressions.{an_int, expr, level, optional}
+use Rattle.smv_rules.specs.Expressions.{an_int, branch, expr, level, optional}
 use Rattle.smv_rules.specs.Formulas.{formula_level}
 use Rattle.smv_rules.specs.Programs.{a_declared, a_property, a_type, actuals, all_assigned, an_elem, assigned, assigned_from, constrained, declared, defined, enumeration, formals, instantiated, interval, program, section_from, sections, sized, some_names, specified}
-use Rattle.smv_rules.proofs.Plain.{Begins, Clear, Seen, Starts, clear_less, starts_law}
+use Rattle.smv_rules.proofs.Plain.{Begins, Clear, Seen, Starts, apart, clear_less, starts_law}
 use Rattle.smv_rules.proofs.Firsts.{Closed, lexeme_level, number_no_mark, present_with, primary_no_mark, seen_closed, seen_is, seen_other, tail_level, unseen_by}
 use Rattle.smv_rules.proofs.ClearExpressions.{begins_starts, int_clear}
 use Rattle.smv_rules.proofs.ClearLevels.{expr_until, levels_clear, operands_until}
@@ -167,7 +168,7 @@ unfolding Clear Starts
 elem_clear n C = (
   (λ p. tt),
   (int_clear n _, (λ i. tt)),
-  (λ us rest x i j c. elim (int_starts n (Begins n a_value _ C) us (starts_law j C c)) [
+  apart (λ us i b. elim (int_starts n (Begins n a_value _ C) us b) [
     | inl s ↦ mark_no_name marks.Minus us s
     | inr s ↦ number_no_name us s
   ]),
@@ -217,17 +218,17 @@ type_clear n C = (
           (
             (λ p. ((λ q. tt), (λ q. sized_clear n p true C))),
             (λ v. interval_clear n v.1 false v.0 C),
-            (λ us rest x i j c. ranged_no_mark marks.Signed us (starts_law j C c)),
+            apart (λ us i b. ranged_no_mark marks.Signed us b),
           ),
-          (λ us rest x i j c. first_mark marks.Signed marks.Unsigned us _ (λ e. absurd (cc)) (ranged_no_mark marks.Unsigned us) (starts_law j C c)),
+          apart (λ us i b. first_mark marks.Signed marks.Unsigned us _ (λ e. absurd (cc)) (ranged_no_mark marks.Unsigned us) b),
         ),
-        (λ us rest x i j c. first_mark marks.Unsigned marks.WordType us _ (λ e. absurd (cc)) (first_mark marks.Signed marks.WordType us _ (λ e. absurd (cc)) (ranged_no_mark marks.WordType us)) (starts_law j C c)),
+        apart (λ us i b. first_mark marks.Unsigned marks.WordType us _ (λ e. absurd (cc)) (first_mark marks.Signed marks.WordType us _ (λ e. absurd (cc)) (ranged_no_mark marks.WordType us)) b),
       ),
-      (λ us rest x i j c. first_mark marks.WordType marks.Minus us _ (λ e. absurd (cc)) (first_mark marks.Unsigned marks.Minus us _ (λ e. absurd (cc)) (first_mark marks.Signed marks.Minus us _ (λ e. absurd (cc)) (ranged_no_mark marks.Minus us))) (starts_law j C c)),
+      apart (λ us i b. first_mark marks.WordType marks.Minus us _ (λ e. absurd (cc)) (first_mark marks.Unsigned marks.Minus us _ (λ e. absurd (cc)) (first_mark marks.Signed marks.Minus us _ (λ e. absurd (cc)) (ranged_no_mark marks.Minus us))) b),
     ),
-    (λ us rest x i j c. first_mark marks.Minus marks.OpenCurly us _ (λ e. absurd (cc)) (first_mark marks.WordType marks.OpenCurly us _ (λ e. absurd (cc)) (first_mark marks.Unsigned marks.OpenCurly us _ (λ e. absurd (cc)) (first_mark marks.Signed marks.OpenCurly us _ (λ e. absurd (cc)) (ranged_no_mark marks.OpenCurly us)))) (starts_law j C c)),
+    apart (λ us i b. first_mark marks.Minus marks.OpenCurly us _ (λ e. absurd (cc)) (first_mark marks.WordType marks.OpenCurly us _ (λ e. absurd (cc)) (first_mark marks.Unsigned marks.OpenCurly us _ (λ e. absurd (cc)) (first_mark marks.Signed marks.OpenCurly us _ (λ e. absurd (cc)) (ranged_no_mark marks.OpenCurly us)))) b),
   ),
-  (λ us rest x i j c. first_mark marks.OpenCurly marks.Boolean us _ (λ e. absurd (cc)) (first_mark marks.Minus marks.Boolean us _ (λ e. absurd (cc)) (first_mark marks.WordType marks.Boolean us _ (λ e. absurd (cc)) (first_mark marks.Unsigned marks.Boolean us _ (λ e. absurd (cc)) (first_mark marks.Signed marks.Boolean us _ (λ e. absurd (cc)) (ranged_no_mark marks.Boolean us))))) (starts_law j C c)),
+  apart (λ us i b. first_mark marks.OpenCurly marks.Boolean us _ (λ e. absurd (cc)) (first_mark marks.Minus marks.Boolean us _ (λ e. absurd (cc)) (first_mark marks.WordType marks.Boolean us _ (λ e. absurd (cc)) (first_mark marks.Unsigned marks.Boolean us _ (λ e. absurd (cc)) (first_mark marks.Signed marks.Boolean us _ (λ e. absurd (cc)) (ranged_no_mark marks.Boolean us))))) b),
 )
 
 -- what expressions and formulas begin with
@@ -244,18 +245,23 @@ expr_no_mark k us d e p (inl s) = seen_other marks.Minus k us d (prefix_mark us 
 expr_no_mark k us d e p (inr (inl s)) = seen_other marks.Bang k us e s
 expr_no_mark k us d e p (inr (inr s)) = primary_no_mark k us p s
 
+-- no branch of a case begins with its end
+pub branch_no_end : (n : ℕ) (bs : Branches) (ts rest : List Token) (x : Branches) → Follows plain n some_branches (branch bs) ts rest x → Unseen (key.mark marks.Esac) ts
+unfolding Starts level primary_by
+branch_no_end n bs ts rest x h = expr_no_mark marks.Esac ts (λ e. absurd (cc)) (λ e. absurd (cc)) refl (starts_law h (λ us. Unit {0}) (inl tt))
+
 -- instances
 actuals_clear : (n : ℕ) (m : List ℕ) (p : Place) (C : List Token → Type 0) → Clear n (actuals m p) C
 unfolding Clear Starts tail_level level primary_by
 actuals_clear n m p C = (
   (λ q. tt),
   (operands_until n a_shape marks.CloseRound _ C (omega arith) (λ e. absurd (cc)) (levels_clear n).fifteen, (λ xs. ((λ q. tt), (λ q. tt)))),
-  (λ us rest x i j c. expr_no_mark marks.CloseRound us (λ e. absurd (cc)) (λ e. absurd (cc)) refl (starts_law j C c)),
+  apart (λ us i b. expr_no_mark marks.CloseRound us (λ e. absurd (cc)) (λ e. absurd (cc)) refl b),
 )
 
 instantiated_clear : (n : ℕ) (m : List ℕ) (p : Place) (C : List Token → Type 0) → ((us : List Token) → C us → Unseen (key.mark marks.OpenRound) us) → Clear n (instantiated m p) C
 unfolding Clear Starts
-instantiated_clear n m p C u = ((λ q. actuals_clear n m p C), tt, (λ us rest x i j c. u us (starts_law j C c)))
+instantiated_clear n m p C u = ((λ q. actuals_clear n m p C), tt, apart (λ us i b. u us b))
 
 -- what a type begins with is no name
 type_no_name : (us : List Token) → Seen (key.mark marks.Boolean) us ⊎ (Seen (key.mark marks.OpenCurly) us ⊎ (Seen (key.mark marks.Minus) us ⊎ (Seen (key.mark marks.WordType) us ⊎ (Seen (key.mark marks.Unsigned) us ⊎ (Seen (key.mark marks.Signed) us ⊎ Ranged us))))) → Unseen key.name us
@@ -269,7 +275,7 @@ type_no_name us (inr (inr (inr (inr (inr (inr s)))))) = number_no_name us (count
 
 declared_clear : (n : ℕ) (b : Bool) (C : List Token → Type 0) → ((us : List Token) → C us → Unseen (key.mark marks.OpenRound) us) → Clear n (a_declared b) C
 unfolding Clear Starts
-declared_clear n true C u = ((λ m. instantiated_clear n m.0 m.1 C u), type_clear n C, (λ us rest x i j c. type_no_name us (starts_law j C c)))
+declared_clear n true C u = ((λ m. instantiated_clear n m.0 m.1 C u), type_clear n C, apart (λ us i b. type_no_name us b))
 declared_clear n false C u = type_clear n C
 
 -- sections
@@ -297,7 +303,7 @@ assignments_clear n ps = ((λ qs t. assigned_from_clear n qs t.0 t.1 _), (λ us 
 -- a semicolon that may be left out
 semicolon_clear : (n : ℕ) (f : Bool → List Part) → Clear n (optional marks.Semicolon) (Begins n some_parts (λ b. gives some_parts (f b)) Bound)
 unfolding Clear Starts heading_by
-semicolon_clear n f = ((λ p. tt), tt, (λ us rest x i j c. bound_mark marks.Semicolon us refl (begins_starts n some_parts (λ b. gives some_parts (f b)) Bound us (starts_law j (Begins n some_parts (λ b. gives some_parts (f b)) Bound) c))))
+semicolon_clear n f = ((λ p. tt), tt, apart (λ us i b. bound_mark marks.Semicolon us refl (begins_starts n some_parts (λ b. gives some_parts (f b)) Bound us b)))
 
 ended : (n : ℕ) (f : Bool → List Part) (us : List Token) → Seen (key.mark marks.Semicolon) us ⊎ Begins n some_parts (λ b. gives some_parts (f b)) Bound us → (Closed 15 us) × FormulaClosed 6 us
 unfolding Starts tail_level
@@ -337,7 +343,7 @@ unfolding Clear Starts level formula_level
 property_clear n ps p = (
   (λ q. ((λ v. tt), (λ v. ((λ r. tt), (λ r. specified_clear n ps (Some v.0) p))))),
   specified_clear n ps None p,
-  (λ us rest x i j c. formula_no_name us (starts_law j Bound c)),
+  apart (λ us i b. formula_no_name us b),
 )
 
 section_clear : (n : ℕ) (ps : List Part) (h : Heading) (p : Place) → Clear n (section_from ps h p) Bound
@@ -377,9 +383,9 @@ name_no_mark k (t ∷ ts) h = unseen_by k t ts (λ e. absurd (let i = ap (λ x. 
 formals_clear : (n : ℕ) (C : List Token → Type 0) → ((us : List Token) → C us → Bound us) → Clear n formals C
 unfolding Clear Starts heading_by
 formals_clear n C c = (
-  (λ p. ((λ q. tt), names_clear n C, (λ us rest x i j d. name_no_mark marks.CloseRound us (starts_law j C d)))),
+  (λ p. ((λ q. tt), names_clear n C, apart (λ us i b. name_no_mark marks.CloseRound us b))),
   tt,
-  (λ us rest x i j d. bound_mark marks.OpenRound us refl (c us (starts_law j C d))),
+  apart (λ us i b. bound_mark marks.OpenRound us refl (c us b)),
 )
 
 -- modules

@@ -52,7 +52,7 @@ end_deep : {X : Type 0} (y : X) (rest : List Token) (k : ℕ) → to_end y rest 
 end_deep y [] k e = absurd (cc)
 end_deep y (t ∷ ts) k e = absurd (cc)
 
-reached_known : {X : Type 0} (m k : ℕ) (out : Got X) → ReachedTo m out → all_read out ≡ Err (wrong k) → k ≤ m
+pub reached_known : {X : Type 0} (m k : ℕ) (out : Got X) → ReachedTo m out → all_read out ≡ Err (wrong k) → k ≤ m
 unfolding ReachedTo
 reached_known m k (Ok y) h e = let w = end_wrong y.0 y.1 k e in omega (arith, h, w)
 reached_known m k (Err (wrong j)) h e = let w : j ≡ k = cc in omega (arith, h, w)
@@ -107,7 +107,7 @@ module _ {X : Type 0} {S : List Token → List Token → X → Type 0} {F D : Li
     deep_front = λ ts i h. law.deep_front ts (drop (i + 1) ts) h;
   }
 
-reached : {X : Type 0} (m : ℕ) (out : Got X) → Met anywhere m out → ReachedTo m out
+pub reached : {X : Type 0} (m : ℕ) (out : Got X) → Met anywhere m out → ReachedTo m out
 unfolding Met
 reached m out h = h
 

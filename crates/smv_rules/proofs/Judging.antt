@@ -1,6 +1,6 @@
 -- The verdict on a text is right where the reading of all tokens decides what they spell.
-use Rattle.std.proofs.Common.{◌≡◌, ◌<◌, ◌≤◌, ◌+◌, ◌-◌, ◌==◌, ◌⊎◌, ℕ, Bool, true, false, ltb, List, drop, length, Option, Some, None, Result, Ok, Err, IfOk, IfErr, refl, sym, ◌∙◌, ap, subst, inl, inr, arith}
-use Rattle.std.proofs.lemmas.Bool.{eq-eqb, ltb-false, ltb-true, ne_eqb}
+use Rattle.std.proofs.Common.{◌≡◌, ◌<◌, ◌≤◌, ◌+◌, ◌-◌, ◌==◌, ◌⊎◌, ℕ, true, false, List, drop, length, Option, Some, None, Result, Ok, Err, IfOk, IfErr, refl, sym, ◌∙◌, ap, subst, inl, inr, arith}
+use Rattle.std.proofs.lemmas.Bool.{cases_lt, eq-eqb, ne_eqb}
 use Rattle.std.proofs.lemmas.Bool.Decides.{eqb_tells}
 use Rattle.smv_tree.specs.declared.place.Place.{Place}
 use Rattle.smv_grammar.specs.declared.fault.ParseFault.{ParseFault}
@@ -28,12 +28,6 @@ deep_one k j r e h = cc
 
 ok_same : {X : Type 0} (x y : X) (r : Result X ParseFault) → r ≡ Ok x → r ≡ Ok y → x ≡ y
 ok_same x y r e h = cc
-
-before_or : (i j : ℕ) → (i < j) ⊎ (j ≤ i)
-before_or i j = by_test (ltb i j) refl where
-  by_test : (b : Bool) → ltb i j ≡ b → (i < j) ⊎ (j ≤ i)
-  by_test true e = inl (ltb-true i j e)
-  by_test false e = inr (ltb-false i j e)
 
 -- the fault where nothing is left, and where something is
 none_left : (ts : List Token) (stop : Option (Place × Flaw)) (end : Place) (k : ℕ) → k ≡ 0 → stop_fault ts stop end (wrong k) ≡ end_fault stop end
@@ -174,13 +168,13 @@ module _ {X : Type 0} {S : List Token → X → Type 0} {F D : List Token → Li
   unexpected_by : DecidesAll S F D all → (ts : List Token) (stop : Option (Place × Flaw)) (end : Place) (i : ℕ) → i < length ts → Reaches F D ts i → (F ts (drop (i + 1) ts) → ⊥) → verdict ts stop end (all ts) ≡ Err (faults.Unexpected (place_at ts i))
   unexpected_by law ts stop end i lt h none = known (all ts) refl where
     not_here : (j : ℕ) → D ts (drop (j + 1) ts) → ⊥
-    not_here j d = elim (before_or j i) [
+    not_here j d = elim (cases_lt j i) [
       | inl l ↦ h.shallow j l d
       | inr g ↦ none (law.prefix ts (i + 1) (j + 1) (omega (arith, g)) (law.deep_front ts j d))
     ]
 
     not_more : (k : ℕ) → all ts ≡ Err (wrong k) → length ts - k ≤ i
-    not_more k e = elim (before_or i (length ts - k)) [
+    not_more k e = elim (cases_lt i (length ts - k)) [
       | inl l ↦ absurd (none (law.prefix ts (i + 1) (length ts - k) (omega (arith, l)) (law.stuck ts k e).1))
       | inr g ↦ g
     ]

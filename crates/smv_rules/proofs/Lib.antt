@@ -8,8 +8,10 @@ pub mod Deciding
 pub mod Judging
 pub mod Verdicts
 pub mod Plain
+pub mod PlainFronts
 pub mod Firsts
 pub mod Inverting
+pub mod Minus
 pub mod ClearExpressions
 pub mod ClearLevels
 pub mod PlainLaws

@@ -1,7 +1,7 @@
 -- What a rule says is read by it, and reading meets each place to which a rule leads.
 use Rattle.std.proofs.Common.{◌≡◌, ◌≤◌, ℕ, zero, suc, List, [], ◌∷◌, length, Option, Some, None, Ok, Err, refl, sym, ◌∙◌, ap, subst, arith}
 use Rattle.smv_token.specs.declared.token.Token.{Token}
-use Rattle.smv_rules.specs.Reading.{wrong, deep, ◌>>=◌, Got}
+use Rattle.smv_rules.specs.Reading.{Stop, wrong, deep, ◌>>=◌, Got}
 use Rattle.smv_rules.proofs.Outcomes.{ReachedTo, TellsOf}
 use Rattle.smv_rules.proofs.Rests.{rest_length}
 use Rattle.smv_rules.specs.Keys.{Key, Payload, Unseen, sees}
@@ -17,6 +17,16 @@ use Rattle.smv_rules.proofs.Told.{Tells, told}
 pub must_read : (n : ℕ) (s : Sort) (k : Key) (f : Payload k → Rule s) (t : Token) (p : Payload k) (ts : List Token) → sees k t ts ≡ Some p → run n (must s k f) (t ∷ ts) ≡ run n (f p) ts
 unfolding run
 must_read n s k f t p ts e = ap (λ (o : Option (Payload k)). if_seen o (λ p. run n (f p) ts) (Err (wrong (length (t ∷ ts))))) e
+
+-- where a token is must_fails, reading stops
+pub must_fails : (n : ℕ) (s : Sort) (k : Key) (f : Payload k → Rule s) (ts : List Token) → Unseen k ts → run n (must s k f) ts ≡ Err (wrong (length ts))
+unfolding run
+must_fails n s k f [] u = refl
+must_fails n s k f (t ∷ ts) u = ap (λ (o : Option (Payload k)). if_seen o (λ p. run n (f p) ts) (Err (wrong (length (t ∷ ts))))) u
+
+pub then_fails : (n : ℕ) (z s : Sort) (r : Rule z) (f : Gift z → Rule s) (ts : List Token) (i : Stop) → run n r ts ≡ Err i → run n (then z s r f) ts ≡ Err i
+unfolding run
+then_fails n z s r f ts i h = ap (λ (q : Got (Gift z)). q >>= (λ a. run n (f a.0) a.1)) h
 
 pub take_read : (n : ℕ) (s : Sort) (k : Key) (f : Payload k → Rule s) (r : Rule s) (t : Token) (p : Payload k) (ts : List Token) → sees k t ts ≡ Some p → run n (may s k f r) (t ∷ ts) ≡ run n (f p) ts
 unfolding run
@@ -79,11 +89,11 @@ next_read n s k f a t p ts e =
 pub given : {X Y : Type 0} (out : Got X) (f : X × List Token → Got Y) (x : X) (us : List Token) → out ≡ Ok (x, us) → (out >>= f) ≡ f (x, us)
 given out f x us e = ap (λ (q : Got _). q >>= f) e
 
-part_read : (n : ℕ) (s : Sort) (p : Part s) (r : Rule s) (ts : List Token) → run (suc n) (part s p r) ts ≡ run n (table p) ts
+pub part_read : (n : ℕ) (s : Sort) (p : Part s) (r : Rule s) (ts : List Token) → run (suc n) (part s p r) ts ≡ run n (table p) ts
 unfolding run
 part_read n s p r ts = refl
 
-other_read : (s : Sort) (p : Part s) (r : Rule s) (ts : List Token) → run 0 (part s p r) ts ≡ run 0 r ts
+pub other_read : (s : Sort) (p : Part s) (r : Rule s) (ts : List Token) → run 0 (part s p r) ts ≡ run 0 r ts
 unfolding run
 other_read s p r ts = refl
 
@@ -113,7 +123,7 @@ Met anywhere m out = ReachedTo m out
 Met at_depth m out = out ≡ Err (deep m)
 
 -- by what follows, reading goes no less far
-met_then : {X Y : Type 0} (e : End) (m : ℕ) (out : Got X) (f : X × List Token → Got Y) → ((x : X × List Token) → ReachedTo (length x.1) (f x)) → Met e m out → Met e m (out >>= f)
+pub met_then : {X Y : Type 0} (e : End) (m : ℕ) (out : Got X) (f : X × List Token → Got Y) → ((x : X × List Token) → ReachedTo (length x.1) (f x)) → Met e m out → Met e m (out >>= f)
 unfolding Met ReachedTo
 met_then {Y = Y} anywhere m (Ok x) f h g = less (f x) (h x) where
   less : (q : Got Y) → ReachedTo (length x.1) q → ReachedTo m q
@@ -124,10 +134,10 @@ met_then anywhere m (Err (wrong i)) f h g = g
 met_then anywhere m (Err (deep i)) f h g = tt
 met_then at_depth m out f h g = ap (λ q. q >>= f) g
 
-met_as : {X : Type 0} (e : End) (m : ℕ) (out other : Got X) → out ≡ other → Met e m other → Met e m out
+pub met_as : {X : Type 0} (e : End) (m : ℕ) (out other : Got X) → out ≡ other → Met e m other → Met e m out
 met_as {X} e m out other i h = let P : Got X → Type 0 = λ q. Met e m q in subst P (sym i) h
 
-first_met : (e : End) (m n : ℕ) (z s : Sort) (r : Rule z) (f : Gift z → Rule s) (ts : List Token) → Met e m (run n r ts) → Met e m (run n (then z s r f) ts)
+pub first_met : (e : End) (m n : ℕ) (z s : Sort) (r : Rule z) (f : Gift z → Rule s) (ts : List Token) → Met e m (run n r ts) → Met e m (run n (then z s r f) ts)
 unfolding run
 first_met e m n z s r f ts h = met_then e m (run n r ts) (λ a. run n (f a.0) a.1) (λ a. run_within n (f a.0) a.1) h
 

@@ -1,42 +1,36 @@
 -- The verdict by the rules of expressions, formulas and programs is right.
-use Rattle.std.proofs.Common.{◌≡◌, ℕ, List, refl, sym, ◌∙◌, ap}
+use Rattle.std.proofs.Common.{◌≡◌, ℕ, List, sym, ◌∙◌, ap}
 use Rattle.smv_tree.specs.Models.{Body, Claim}
 use Rattle.smv_tree.specs.Trees.{Tree}
-use Rattle.smv_grammar.specs.Forms.{deepest}
-use Rattle.smv_rules.specs.Reading.{all_read}
-use Rattle.smv_rules.proofs.Deciding.{DecidesAll, decides_all, rule_decides}
+use Rattle.smv_rules.proofs.PlainLaws.{Whole, expression_whole, formula_whole, plain_decides, program_whole}
 use Rattle.smv_rules.proofs.Judging.{explained_law, found_law, one_law, only_law, refused_law}
-use Rattle.smv_rules.specs.Sorts.{Gift, Sort, a_formula, an_expression, some_bodies}
+use Rattle.smv_rules.specs.Sorts.{Gift, Sort}
 use Rattle.smv_rules.specs.Rules.{Rule}
 use Rattle.smv_rules.specs.Expressions.{expr}
 use Rattle.smv_rules.specs.Programs.{program}
-use Rattle.smv_rules.specs.Follows.{by_token, Leads, anywhere, at_depth}
-use Rattle.smv_rules.specs.Running.{run}
-use Rattle.smv_rules.specs.Texts.{IsAll, SpellsExpr, SpellsFormulaText, SpellsProgram, SpellsSeen, claim_of, formula, tree_of}
+use Rattle.smv_rules.specs.Texts.{SpellsProgram}
+use Rattle.smv_rules.specs.PartTexts.{SpellsExpr, SpellsFormulaText, SpellsSeen, claim_of, formula, tree_of}
 use Rattle.smv_rules.specs.WholeReading.{Right}
-use Rattle.smv_rules.proofs.Begun.{Late, expr_late, formula_late, late_some}
 
--- reading all tokens decides a rule that is not too deep at once
-pub decides : (s : Sort) (r : Rule s) → Late r → DecidesAll (IsAll r) (Leads by_token anywhere deepest s r) (Leads by_token at_depth deepest s r) (λ ts. all_read (run deepest r ts))
-decides s r l = decides_all (rule_decides deepest s r (λ ts rest h. late_some h refl l))
-
-right : (s : Sort) (r : Rule s) → Late r → Right r
-right s r l = record {
-  found = λ bytes x e. found_law (decides s r l) bytes x e;
-  only = λ bytes x h. only_law (decides s r l) bytes x h;
-  refused = λ bytes f e. refused_law (decides s r l) bytes f e;
-  cause = λ bytes f h. explained_law (decides s r l) bytes f h;
-  one = λ bytes x y a b. one_law (decides s r l) bytes x y a b;
-}
+right : {s : Sort} (r : Rule s) → Whole r → Right r
+right r w =
+    let law = plain_decides r w in
+    record {
+      found = λ bytes x e. found_law law bytes x e;
+      only = λ bytes x h. only_law law bytes x h;
+      refused = λ bytes f e. refused_law law bytes f e;
+      cause = λ bytes f h. explained_law law bytes f h;
+      one = λ bytes x y a b. one_law law bytes x y a b;
+    }
 
 pub expression_right : Right expr
-expression_right = right an_expression expr expr_late
+expression_right = right expr expression_whole
 
 pub formula_right : Right formula
-formula_right = right a_formula formula formula_late
+formula_right = right formula formula_whole
 
 pub program_right : Right program
-program_right = right some_bodies program tt
+program_right = right program program_whole
 
 -- a text spells at most one
 one_seen : {s : Sort} {Y : Type 0} (r : Rule s) (seen : Gift s → Y) → Right r → (bytes : List ℕ) (x y : Y) → SpellsSeen r seen bytes x → SpellsSeen r seen bytes y → x ≡ y

@@ -4,9 +4,9 @@ use Rattle.smv_token.specs.declared.token.Token.{Token}
 use Rattle.smv_rules.proofs.Rests.{Rest, either, rest_behind, rest_both, rest_more, rest_same, rest_trans}
 use Rattle.smv_rules.specs.Sorts.{Gift, Sort}
 use Rattle.smv_rules.specs.Rules.{Rule, gives, too_deep, must, may, again}
-use Rattle.smv_rules.specs.Follows.{by_token, End, anywhere, Follows, done, has, takes, skips, nests, stays, chains, stops, goes_on, Leads, here, deep_here, past_token, past_taken, past_skipped, in_part, in_other, in_first, past_first, in_next, past_next}
+use Rattle.smv_rules.specs.Follows.{Mode, End, anywhere, Follows, done, has, takes, skips, nests, stays, chains, stops, goes_on, Leads, here, deep_here, past_token, past_taken, past_skipped, in_part, in_other, in_first, past_first, in_next, past_next}
 
-pub follows_rest : {n : ℕ} {s : Sort} {r : Rule s} {ts rest : List Token} {x : Gift s} → Follows by_token n s r ts rest x → Rest rest ts
+pub follows_rest : {m : Mode} {n : ℕ} {s : Sort} {r : Rule s} {ts rest : List Token} {x : Gift s} → Follows m n s r ts rest x → Rest rest ts
 follows_rest (done n s x ts) = rest_same ts
 follows_rest (has n s k f t p ts rest x e h) = rest_more rest ts t (follows_rest h)
 follows_rest (takes n s k f r t p ts rest x e h) = rest_more rest ts t (follows_rest h)
@@ -17,7 +17,7 @@ follows_rest (chains n z s r f ts us rest a x h j) = rest_trans rest us ts (foll
 follows_rest (stops n s k f a ts u) = rest_same ts
 follows_rest (goes_on n s k f a t p ts us rest b x e h j) = rest_more rest ts t (rest_trans rest us ts (follows_rest j) (follows_rest h))
 
-pub leads_rest : {e : End} {n : ℕ} {s : Sort} {r : Rule s} {ts rest : List Token} → Leads by_token e n s r ts rest → Rest rest ts
+pub leads_rest : {m : Mode} {e : End} {n : ℕ} {s : Sort} {r : Rule s} {ts rest : List Token} → Leads m e n s r ts rest → Rest rest ts
 leads_rest (here n s r ts) = rest_same ts
 leads_rest (deep_here n s ts) = rest_same ts
 leads_rest (past_token e n s k f t p ts rest i h) = rest_more rest ts t (leads_rest h)
@@ -31,11 +31,11 @@ leads_rest (in_next e n s k f a t p ts rest i h) = rest_more rest ts t (leads_re
 leads_rest (past_next e n s k f a t p ts us rest b i h j) = rest_more rest ts t (rest_trans rest us ts (leads_rest j) (follows_rest h))
 
 -- the first place of a way
-at_first : (n : ℕ) (s : Sort) (r : Rule s) (ts cut : List Token) → cut ≡ ts → Leads by_token anywhere n s r ts cut
-at_first n s r ts cut e = let P : List Token → Type 0 = λ us. Leads by_token anywhere n s r ts us in subst P (sym e) (here n s r ts)
+at_first : {m : Mode} (n : ℕ) (s : Sort) (r : Rule s) (ts cut : List Token) → cut ≡ ts → Leads m anywhere n s r ts cut
+at_first {m} n s r ts cut e = let P : List Token → Type 0 = λ us. Leads m anywhere n s r ts us in subst P (sym e) (here n s r ts)
 
 -- what is spelled is reached, and so is each place in it
-pub follows_leads : {n : ℕ} {s : Sort} {r : Rule s} {ts rest : List Token} {x : Gift s} → Follows by_token n s r ts rest x → (cut : List Token) → Rest cut ts → Rest rest cut → Leads by_token anywhere n s r ts cut
+pub follows_leads : {m : Mode} {n : ℕ} {s : Sort} {r : Rule s} {ts rest : List Token} {x : Gift s} → Follows m n s r ts rest x → (cut : List Token) → Rest cut ts → Rest rest cut → Leads m anywhere n s r ts cut
 follows_leads (done n s x ts) cut a b = at_first n s (gives s x) ts cut (rest_both cut ts a b)
 follows_leads (has n s k f t p ts rest x e h) cut a b = elim (rest_behind cut ts t a) [
   | inl i ↦ at_first n s (must s k f) (t ∷ ts) cut i
@@ -62,7 +62,7 @@ follows_leads (goes_on n s k f c t p ts us rest d x e h j) cut a b = elim (rest_
 ]
 
 -- each place on a way is reached
-pub leads_passed : {e : End} {n : ℕ} {s : Sort} {r : Rule s} {ts rest : List Token} → Leads by_token e n s r ts rest → (cut : List Token) → Rest cut ts → Rest rest cut → Leads by_token anywhere n s r ts cut
+pub leads_passed : {m : Mode} {e : End} {n : ℕ} {s : Sort} {r : Rule s} {ts rest : List Token} → Leads m e n s r ts rest → (cut : List Token) → Rest cut ts → Rest rest cut → Leads m anywhere n s r ts cut
 leads_passed (here n s r ts) cut a b = at_first n s r ts cut (rest_both cut ts a b)
 leads_passed (deep_here n s ts) cut a b = at_first n s (too_deep s) ts cut (rest_both cut ts a b)
 leads_passed (past_token e n s k f t p ts rest i h) cut a b = elim (rest_behind cut ts t a) [
@@ -92,3 +92,7 @@ leads_passed (past_next e n s k f c t p ts us rest d i h j) cut a b = elim (rest
     | inr w ↦ past_next anywhere n s k f c t p ts us cut d i h (leads_passed j cut w b)
   ]
 ]
+
+-- what leads to a place at which it is too deep leads there
+pub anyhow : {m : Mode} {e : End} {n : ℕ} {s : Sort} {r : Rule s} {ts rest : List Token} → Leads m e n s r ts rest → Leads m anywhere n s r ts rest
+anyhow {rest = rest} h = leads_passed h rest (leads_rest h) (rest_same rest)

@@ -146,12 +146,16 @@ more_branches bs = again some_branches key.further (λ bs q. branch bs) bs
 abbrev pub no_branches : Branches
 no_branches = record { arms = []; depth = 0 }
 
+-- the `;` before the end of a case
+abbrev pub last_semicolon : Rule a_place
+last_semicolon = must a_place key.closing (λ p. gives a_place p)
+
 -- { expr : expr ; }* esac, with at least one branch
 abbrev pub listed_branches : Place → Rule an_expression
 listed_branches p = do
   b ← branch no_branches
   bs ← more_branches b
-  q ← mark marks.Semicolon
+  q ← last_semicolon
   r ← mark marks.Esac
   deeper (tree.cases p (arms bs.arms)) bs.depth
 

@@ -58,10 +58,10 @@ pub data Target : Type 0 where
   of_moment : Moment → Target
 
 -- What a token may be asked for: a mark; a name; a number, without its place or with it; the beginning
--- of a primary expression; a `-` before an operand; a `;` before a further branch of a case; an operator
--- of a level; the beginning of any expression. Of formulas: an operator before one; a `(` that opens
--- one; an operator of a level; the beginning of any formula. Of programs: the word of a section; the
--- beginning of an assignment.
+-- of a primary expression; a `-` before an operand; a `;` before a further branch of a case, or before its
+-- end; an operator of a level; the beginning of any expression. Of formulas: an operator before one; a `(`
+-- that opens one; an operator of a level; the beginning of any formula. Of programs: the word of a section;
+-- the beginning of an assignment.
 pub data Key : Type 0 where
   mark : Mark → Key
   name : Key
@@ -70,6 +70,7 @@ pub data Key : Type 0 where
   primary : Key
   minus : Key
   further : Key
+  closing : Key
   operator : ℕ → Key
   operand : Key
   before_formula : Key
@@ -87,6 +88,7 @@ Payload counted = ℕ × Place
 Payload primary = Primary × Place
 Payload minus = Place
 Payload further = Place
+Payload closing = Place
 Payload (operator l) = Op2 × Place
 Payload operand = Place
 Payload before_formula = Claim → Claim
@@ -203,9 +205,9 @@ abbrev pub begins_with : Mark → List Token → Bool
 begins_with m [] = false
 begins_with m (t ∷ ts) = is_mark m t.lexeme
 
--- What a token tells where it is what is asked for. Three keys look at what stands behind it: a `-` is no
--- operator where it begins a range, a `(` opens a formula where its group says so, and a further branch
--- of a case stands behind a `;` where its end does not.
+-- What a token tells where it is what is asked for. Some keys look at what stands behind it: a `-` is no
+-- operator where it begins a range, a `(` opens a formula where its group says so, and behind a `;` of a
+-- case stands `esac` or a further branch.
 unfoldable pub sees : (k : Key) → Token → List Token → Option (Payload k)
 sees (mark m) t ts = if_there (is_mark m t.lexeme) t.place
 sees name t ts = with_place (name_of t.lexeme) t.place
@@ -214,6 +216,7 @@ sees counted t ts = with_place (number_of t.lexeme) t.place
 sees primary t ts = with_place (primary_of t.lexeme) t.place
 sees minus t ts = if begins_range ts then None else if_there (is_mark marks.Minus t.lexeme) t.place
 sees further t ts = if begins_with marks.Esac ts then None else if_there (is_mark marks.Semicolon t.lexeme) t.place
+sees closing t ts = if begins_with marks.Esac ts then if_there (is_mark marks.Semicolon t.lexeme) t.place else None
 sees (operator l) t ts = with_place (of_level l (by_mark infix_of (mark_of t.lexeme))) t.place
 sees operand t ts = if_there (is_operand t.lexeme) t.place
 sees before_formula t ts = prefix_of (start_of (t ∷ ts))

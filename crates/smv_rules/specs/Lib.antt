@@ -9,5 +9,6 @@ pub mod Follows
 pub mod Reading
 pub mod Running
 pub mod Texts
+pub mod PartTexts
 pub mod Verdicts
 pub mod WholeReading

@@ -1,13 +1,22 @@
 ghost use Rattle.std.specs.Prelude.{◌≡◌, List, ℕ};
 ghost use Rattle.smv_tree.specs.Models.{Body, Claim};
 ghost use Rattle.smv_tree.specs.Trees.{Tree};
-ghost use Rattle.smv_rules.specs.Expressions.{expr};
+ghost use Rattle.smv_token.specs.declared.mark.Mark.TheVariants as marks;
+ghost use Rattle.smv_token.specs.declared.token.Token.{Token};
+ghost use Rattle.smv_rules.specs.Expressions.{branch, expr};
+ghost use Rattle.smv_rules.specs.Follows.{Follows, plain};
+ghost use Rattle.smv_rules.specs.Keys as key;
+ghost use Rattle.smv_rules.specs.Keys.{Unseen};
+ghost use Rattle.smv_rules.specs.Sorts.{Branches, some_branches};
 ghost use Rattle.smv_rules.specs.Programs.{program};
-ghost use Rattle.smv_rules.specs.Texts.{SameWhenPlain, SpellsExpr, SpellsFormulaText, SpellsProgram, formula};
+ghost use Rattle.smv_rules.specs.Texts.{SpellsProgram};
+ghost use Rattle.smv_rules.specs.PartTexts.{SpellsExpr, SpellsFormulaText, formula};
 ghost use Rattle.smv_rules.specs.WholeReading.{Right};
 
-/// The reading of texts by the rules is what the rules say: it gives exactly what a text spells, and
-/// refuses exactly what a text shows, by the rules of expressions, of formulas and of programs.
+/// The reading of texts by the rules, which decides by the next token what is left out and where what
+/// comes again ends, is what the plain rules say, by which this may be wherever what follows can stand
+/// there: it gives exactly what a text spells, and refuses exactly what a text shows, by the rules of
+/// expressions, of formulas and of programs.
 #[tactic(auto, using(crate::proofs::Verdicts::expression_right, crate::proofs::Verdicts::formula_right, crate::proofs::Verdicts::program_right))]
 pub fn reading_is_right()
     ensures expression { Right expr }
@@ -15,13 +24,11 @@ pub fn reading_is_right()
     ensures program { Right program }
 {}
 
-/// What the next token decides loses nothing: the plain rules, by which a part may be left out and what
-/// comes again may end wherever what follows can stand there, spell the same.
-#[tactic(auto, using(crate::proofs::PlainLaws::expression_plain, crate::proofs::PlainLaws::formula_plain, crate::proofs::PlainLaws::program_plain))]
-pub fn next_token_loses_nothing()
-    ensures expression { SameWhenPlain expr }
-    ensures formula { SameWhenPlain formula }
-    ensures program { SameWhenPlain program }
+/// No branch of a case begins with `esac`: so behind a `;` the next token may tell a branch from the end.
+#[tactic(auto, using(crate::proofs::ClearPrograms::branch_no_end))]
+pub fn no_branch_begins_with_esac()
+    ensures { (n : ℕ) (bs : Branches) (ts rest : List Token) (x : Branches) →
+        Follows plain n some_branches (branch bs) ts rest x → Unseen (key.mark marks.Esac) ts }
 {}
 
 /// A text spells at most one expression, at most one formula and at most one program.

@@ -4,4 +4,4 @@
 
 mod laws;
 
-pub use laws::{next_token_loses_nothing, one_spelling, reading_is_right};
+pub use laws::{no_branch_begins_with_esac, one_spelling, reading_is_right};

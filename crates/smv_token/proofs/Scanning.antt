@@ -7,7 +7,8 @@ use Rattle.smv_tree.specs.declared.place.Place.{Place}
 use Rattle.smv_token.specs.declared.token.Flaw.{Flaw}
 use Rattle.smv_token.specs.declared.token.Token.{Token}
 use Rattle.smv_token.specs.declared.token.Piece.{Piece}
-use Rattle.smv_token.specs.Tokens.{Fits, Scanned, after, cut_name, joined, piece_at, stopped, token_of, tokens_from, with_front}
+use Rattle.smv_token.specs.Scans.{Fits}
+use Rattle.smv_token.specs.Tokens.{Scanned, after, cut_name, joined, piece_at, stopped, token_of, tokens_from, with_front}
 
 pub front_within : (p : ℕ → Bool) (bs : List ℕ) → prefix_len p bs ≤ length bs
 front_within p bs = prefix_len-le-length p bs

@@ -3,3 +3,4 @@ pub mod LeftOut
 pub mod Tokens
 pub mod Scans
 pub mod Numbers
+pub mod LongestSymbol

@@ -1,5 +1,5 @@
 -- The tokens of a text, and where each begins.
-use Rattle.std.specs.Prelude.{◌≡◌, ◌≤◌, ◌++◌, ◌+◌, ◌-◌, ◌^◌, ◌&&◌, ◌||◌, ◌==◌, ℕ, zero, suc, Bool, true, false, not, List, [], ◌∷◌, length, take, drop, min, Option, Some, None, Result, Ok, Err, if◌then◌else◌, nat_eq, nat_le, codes}
+use Rattle.std.specs.Prelude.{◌++◌, ◌+◌, ◌-◌, ◌^◌, ◌&&◌, ◌||◌, ◌==◌, ℕ, zero, suc, Bool, not, List, [], ◌∷◌, length, take, drop, min, Option, Some, None, Result, Ok, Err, if◌then◌else◌, nat_eq, nat_le, codes}
 use Rattle.std.specs.List.{prefix_len, starts_with}
 use Rattle.smv_tree.specs.declared.place.Place.{Place}
 use Rattle.smv_token.specs.declared.left_out.LeftOut.{LeftOut}
@@ -114,16 +114,6 @@ start = record { line = 1; column = 1 }
 -- the place after a byte: the next column, or the next line's first; it stands still at 2 ^ 32 - 1
 abbrev pub after : Place → ℕ → Place
 after p b = if b == 10 then record { line = min (p.line + 1) 4294967295; column = 1 } else record { line = p.line; column = min (p.column + 1) 4294967295 }
-
-abbrev pub is_named : Piece → Bool
-is_named piece.Name = true
-is_named p = false
-
--- a piece is not empty and lies in its text, and a name has at most 255 bytes
-pub record Fits (bs : List ℕ) (k : ℕ × Piece) : Type 0 where
-  pub some : 1 ≤ k.0
-  pub within : k.0 ≤ length bs
-  pub short : is_named k.1 ≡ true → k.0 ≤ 255
 
 -- the token of a piece with these bytes, if it is one
 unfoldable pub token_of : Place → Piece → List ℕ → List Token

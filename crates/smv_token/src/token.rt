@@ -1,8 +1,8 @@
 ghost use Rattle.std.specs.Prelude.{◌≡◌, ◌+◌, ◌<◌, ◌≤◌, ◌^◌, ◌++◌, false, IfErr, IfOk, IfSome, None, OnOk, Some, fold, length, take, true};
 ghost use Rattle.std.specs.List.{prefix_len};
 ghost use Rattle.smv_token.specs.Numbers.{at_most, is_decimal, radix_of, value_after, width_of};
-ghost use Rattle.smv_token.specs.Scans.{scan_of};
-ghost use Rattle.smv_token.specs.Tokens.{Fits, after, begins_name, cut_name, continues_name, digit_piece, digits_at, goes_on, is_blank, is_in_line, is_named, number_at, piece_at, run_kind, scanned, start, token_of, word_at, word_of_width};
+ghost use Rattle.smv_token.specs.Scans.{Fits, is_named, scan_of};
+ghost use Rattle.smv_token.specs.Tokens.{after, begins_name, cut_name, continues_name, digit_piece, digits_at, goes_on, is_blank, is_in_line, number_at, piece_at, run_kind, scanned, start, token_of, word_at, word_of_width};
 
 use crate::left_out::{LeftOut, left_out};
 use crate::mark::{Mark, symbol_at, word_of};

@@ -1,6 +1,6 @@
 use Rattle.smv_tree.specs.Trees.{Tree, expr_tree}
 use Rattle.smv_rules.specs.Expressions.{expr}
-use Rattle.smv_rules.specs.Texts.{tree_of}
+use Rattle.smv_rules.specs.PartTexts.{tree_of}
 use Rattle.smv_rules.proofs.Verdicts.{expression_right}
 use Rattle.smv_parse.specs.TextReading.{expression_of}
 use Rattle.smv_parse.proofs.TextLaws.{answers_cause, answers_found, answers_only, answers_refused}

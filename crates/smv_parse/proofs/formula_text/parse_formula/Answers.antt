@@ -1,5 +1,5 @@
 use Rattle.smv_tree.specs.Models.{Claim, formula_claim}
-use Rattle.smv_rules.specs.Texts.{claim_of, formula}
+use Rattle.smv_rules.specs.PartTexts.{claim_of, formula}
 use Rattle.smv_rules.proofs.Verdicts.{formula_right}
 use Rattle.smv_parse.specs.TextReading.{formula_of}
 use Rattle.smv_parse.proofs.TextLaws.{answers_cause, answers_found, answers_only, answers_refused}
