@@ -289,10 +289,11 @@ impl Reader {
         let [first, rest @ ..] = tokens else {
             return Err(Halt::Wrong(0));
         };
+        if !begins_with(Mark::Esac, rest) {
+            return Err(Halt::Wrong(tokens.len()));
+        }
         match first.lexeme {
-            Lexeme::Mark(found) if Mark::Semicolon == found && begins_with(Mark::Esac, rest) => {
-                Ok((first.place, rest))
-            }
+            Lexeme::Mark(found) if Mark::Semicolon == found => Ok((first.place, rest)),
             _ => Err(Halt::Wrong(tokens.len())),
         }
     }
