@@ -2,7 +2,7 @@
 
 ghost use Rattle.std.specs.Prelude.{◌≡◌};
 ghost use Rattle.smv_tree.specs.Trees.{expr_tree};
-ghost use Rattle.smv_printing.specs.Printing.{is_negation, level, level_of_one, mark_of_two, misread, right_level, left_level};
+ghost use Rattle.smv_printing.specs.Printing.{is_negation, left_level, level, level_of_one, mark_of_two, misread, operator_level, right_level, to_right};
 
 use smv_grammar::infix_of;
 use smv_printing::Lead;

@@ -1,5 +1,5 @@
 -- What the tokens of a formula tell, by the rules of formulas.
-use Rattle.std.proofs.Common.{◌≡◌, ◌≤◌, ◌<◌, ◌-◌, ◌||◌, ◌∙◌, ℕ, zero, suc, max, Bool, true, false, cond, List, [], ◌∷◌, Some, refl, sym, subst, ap, arith, inl, inr}
+use Rattle.std.proofs.Common.{◌≡◌, ◌≤◌, ◌<◌, ◌-◌, ◌||◌, ◌==◌, ◌∙◌, ℕ, zero, suc, max, Bool, true, false, cond, List, [], ◌∷◌, Some, refl, sym, subst, ap, arith, inl, inr}
 use Rattle.std.specs.List.{list_any}
 use Rattle.smv_tree.specs.declared.formula.FormOp.{FormOp}
 use Rattle.smv_tree.specs.declared.place.Place.{Place}
@@ -7,7 +7,7 @@ use Rattle.smv_tree.specs.Models.{atom, both}
 use Rattle.smv_token.specs.declared.mark.Mark.TheVariants as marks
 use Rattle.smv_token.specs.declared.token.Token.{Token}
 use Rattle.smv_grammar.specs.Forms.{deepest}
-use Rattle.smv_grammar.specs.Formulas.{closes, group, group_on, holds_temporal, is_temporal, joining, opens, outermost, rightward, role, role_of, start_of}
+use Rattle.smv_grammar.specs.Formulas.{closes, group, group_on, holds_temporal, is_temporal, joining, opens, outermost, role, role_of, start_of}
 use Rattle.smv_grammar.specs.IsMark.{is_mark}
 use Rattle.smv_rules.specs.Keys.{Unseen, begins_with, if_there, is_bracket, sees}
 use Rattle.smv_rules.specs.Keys as key
@@ -20,6 +20,7 @@ use Rattle.smv_rules.specs.Follows.{Follows, plain}
 use Rattle.smv_rules.proofs.Firsts.{is_mark_true}
 use Rattle.smv_rules.proofs.Inverting.{Had}
 use Rattle.smv_printing.specs.declared.lead.Lead.TheVariants as lead
+use Rattle.smv_printing.specs.Printing.{left_of, right_of}
 use Rattle.smv_printing.specs.Scannables.{AllScannable, ClaimScannable}
 use Rattle.smv_printing.proofs.Says.{past}
 use Rattle.smv_printing.proofs.Fits.{Fits}
@@ -176,7 +177,7 @@ both_gave n l i j ts us rest t o b x r el er claims see g h =
 looser : (l m : ℕ) (ts rest : List Token) (x : Formula) → l ≤ m → ClaimGave l ts rest x → ClaimGave m ts rest x
 looser l m ts rest x le g = record { fits = claim_looser l m x le g.fits; words = g.words; scannable = g.scannable }
 
-joined_gave : (n l : ℕ) (r : Rule a_formula) → rightward (suc l) ≡ false → Claims n r l → Claims n (r >>= joined (suc l) r) (suc l)
+joined_gave : (n l : ℕ) (r : Rule a_formula) → (suc l == outermost) ≡ false → Claims n r l → Claims n (r >>= joined (suc l) r) (suc l)
 unfolding Inverse Kept
 joined_gave n l r e claims ts rest x h a =
     let c = inverse h in

@@ -182,7 +182,7 @@ says_token {n} {z} {s} {k} g {f} {w} load e h = record {
 }
 
 pub says_mark : {n : ℕ} {s : Sort} {m : Mark} {f : Place → Rule s} {is : List Ink} {G : Gift s → Type 0} → ((p : Place) → Says n (f p) is G) → Says n (mark m >>= f) (symbol m ∷ is) G
-says_mark {m = m} h = says_token (λ p. p) (λ p. p) (sees_mark {m}) h
+says_mark {m = m} h = says_token (λ p. p) (λ p. p) (sees_mark {m = m}) h
 
 -- the `;` before the end of a case
 last_sees : Sees key.closing (lexeme.Mark marks.Semicolon) (blank ∷ symbol marks.Esac ∷ []) (λ p. p)

@@ -1,5 +1,5 @@
 -- How expressions and formulas are printed.
-use Rattle.std.specs.Prelude.{ℕ, suc, ℤ, pos, negsuc, ◌||◌, ◌-◌, Bool, true, false, List, [], ◌∷◌, ◌++◌, if◌then◌else◌, nat_lt, codes, decimal}
+use Rattle.std.specs.Prelude.{ℕ, suc, ℤ, pos, negsuc, ◌||◌, ◌==◌, ◌-◌, Bool, true, false, List, [], ◌∷◌, ◌++◌, if◌then◌else◌, nat_lt, codes, decimal}
 use Rattle.std.specs.List.{flat_map}
 use Rattle.std.specs.Str.{bytes_eq}
 use Rattle.smv_tree.specs.declared.expr.Op1.{Op1}
