@@ -7,7 +7,8 @@ use Rattle.bool_replay.specs.declared.verdict.Cause.{Cause}
 use Rattle.std.proofs.lemmas.Bool.{false≢true}
 use Rattle.bool_replay.specs.declared.verdict.Verdict.{Verdict}
 use Rattle.bool_replay.specs.declared.verdict.Verdict.TheVariants.{NotBuilt, NoValue}
-use Rattle.bool_replay.specs.Plain.{is_plain_body, is_plain_program, program_names, names_of}
+use Rattle.bool_replay.specs.Plain.{is_plain_body, is_plain_program, names_of}
+use Rattle.bool_replay.specs.ProgramNames.{program_names}
 use Rattle.bool_replay.specs.Evaluation.{stop_of}
 use Rattle.bool_replay.specs.Stops.{verdict_of}
 use Rattle.bool_replay.specs.TraceTexts.{Section, IsTraceText, first_gap, truths_of}

@@ -1,4 +1,5 @@
 pub mod Plain
+pub mod ProgramNames
 pub mod Evaluation
 pub mod TraceTexts
 pub mod Replays

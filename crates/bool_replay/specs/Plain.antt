@@ -63,8 +63,3 @@ is_plain_program _ = false
 
 abbrev pub IsPlain : List Body → Type 0
 IsPlain program = is_plain_program program ≡ true
-
--- the names that the first module of a program declares
-abbrev pub program_names : List Body → List (List ℕ)
-program_names [] = []
-program_names (b ∷ others) = names_of b.parts

@@ -2,7 +2,8 @@ ghost use Rattle.std.specs.Prelude.{◌≡◌, ◌∷◌, [], true, false, map, 
 ghost use Rattle.std.specs.List.{list_all};
 ghost use Rattle.smv_tree.specs.Trees.{expr_tree};
 ghost use Rattle.smv_tree.specs.Models.{Body, bodies, part_of};
-ghost use Rattle.bool_replay.specs.Plain.{is_declared, is_variable, is_plain, is_plain_part, is_plain_body, is_plain_program, program_names, names_of, are_distinct, declared_name};
+ghost use Rattle.bool_replay.specs.Plain.{is_declared, is_variable, is_plain, is_plain_part, is_plain_body, is_plain_program, names_of, are_distinct, declared_name};
+ghost use Rattle.bool_replay.specs.ProgramNames.{program_names};
 
 use crate::lines::equal;
 use crate::names::Names;

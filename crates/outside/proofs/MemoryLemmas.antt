@@ -8,7 +8,8 @@ use Rattle.std.specs.Result.{IsErrAnd}
 use Rattle.std.proofs.lemmas.Result.{err_from_is_err_and}
 use Rattle.outside.specs.declared.Failed.{Failed}
 use Rattle.outside.specs.Memory.{stored}
-use Rattle.outside.specs.Told.{Fills, HasRisen, Input, Output, Takes}
+use Rattle.outside.specs.Calls.{Fills, Takes}
+use Rattle.outside.specs.Told.{HasRisen, Input, Output}
 
 -- looking from a place on is looking at that file and then behind it
 pub stored_step : (files : List (List ℕ × List ℕ)) (i : ℕ) (name : List ℕ) (d : List ℕ × List ℕ) → i < length files → stored (drop i files) name ≡ (if bytes_eq (get_or files i d).0 name then Some (get_or files i d).1 else stored (drop (i + 1) files) name)

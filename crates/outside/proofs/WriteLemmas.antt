@@ -7,7 +7,8 @@ use Rattle.std.proofs.lemmas.List.{append-nil, take-append-drop, take_all, take_
 use Rattle.std.proofs.lemmas.Grind.{flat_map-append}
 use Rattle.std.proofs.lemmas.Result.{err_from_is_err_and, on_err_weaker, on_ok_weaker}
 use Rattle.outside.specs.declared.Failed.{Failed}
-use Rattle.outside.specs.Told.{AddsFront, HasRisen, Output, Writes, one_more}
+use Rattle.outside.specs.Calls.{Writes}
+use Rattle.outside.specs.Told.{AddsFront, HasRisen, Output, one_more}
 use Rattle.outside.proofs.ToldLemmas.{append_known-twice}
 
 -- a text was added and then another

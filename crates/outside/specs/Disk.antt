@@ -4,10 +4,6 @@ use Rattle.outside.specs.declared.files.FileFault.{FileFault}
 use Rattle.outside.specs.declared.files.FileFault.TheVariants as fault
 use Rattle.outside.specs.Told.{Disk, HasRisen}
 
--- what each name holds
-abbrev pub Held : Type 0
-Held = List ℕ → Option (List ℕ)
-
 -- what is told of a file has the fact, and where nothing is told the fact is as good as true
 abbrev pub IfTold : Option (List ℕ → Option (List ℕ)) → List ℕ → (Option (List ℕ) → Type 0) → Type 0
 IfTold None name P = ⊤

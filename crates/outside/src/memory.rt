@@ -3,7 +3,7 @@
 ghost use Rattle.std.specs.Prelude.{◌≡◌, ◌-◌, ◌∷◌, ◌||◌, ◌↔◌, [], Err, IfOk, IsTrue, OnErr, OnOk, is_err, length, min};
 ghost use Rattle.outside.specs.Disk.{ReadsFile, WritesFile};
 ghost use Rattle.outside.specs.Memory.{counted, fails_next, is_full, told_files, told_input, told_output};
-ghost use Rattle.outside.specs.Told.{Fills, Takes};
+ghost use Rattle.outside.specs.Calls.{Fills, Takes};
 
 use crate::calls::Calls;
 use crate::{Failed, FileFault, Files, Sink, SoundFiles, SoundSource, Source, Text};

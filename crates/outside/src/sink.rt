@@ -1,5 +1,6 @@
 ghost use Rattle.std.specs.Prelude.{flat_map};
-ghost use Rattle.outside.specs.Told.{Output, Takes, Writes};
+ghost use Rattle.outside.specs.Calls.{Takes, Writes};
+ghost use Rattle.outside.specs.Told.{Output};
 
 use crate::Failed;
 

@@ -1,6 +1,7 @@
 ghost use Rattle.std.specs.Prelude.{◌≡◌, ◌≢◌, [], ◌∷◌, IfOk, IfSome, IfNone, IsSome, OnErr, OnOk};
 ghost use Rattle.std.specs.Io.KnownBytes.{prepend_known};
-ghost use Rattle.outside.specs.Told.{Fills, HasRisen, Input, Writes};
+ghost use Rattle.outside.specs.Calls.{Fills, Writes};
+ghost use Rattle.outside.specs.Told.{HasRisen, Input};
 ghost use Rattle.outside.specs.Lines.{ReadsLine, fault_number, fault_text};
 ghost use Rattle.outside.specs.declared.source.LineFault.TheVariants.{NoMemory};
 

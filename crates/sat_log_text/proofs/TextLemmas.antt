@@ -4,7 +4,8 @@ use Rattle.std.specs.Prelude.{codes, Ok, Err}
 use Rattle.std.specs.List.{flat_map}
 use Rattle.std.proofs.lemmas.List.{append-nil}
 use Rattle.outside.specs.declared.Failed.{Failed}
-use Rattle.outside.specs.Told.{Output, Writes}
+use Rattle.outside.specs.Calls.{Writes}
+use Rattle.outside.specs.Told.{Output}
 use Rattle.outside.proofs.WriteLemmas.{writes_as, writes_stopped, writes_then}
 use Rattle.sat_log.specs.Literal.{Literal}
 use Rattle.sat_log_text.specs.LogText.{spaced, line_text, literal_word, zero_word, letter, hint_words, line_words, clause_lines, end_words, text_of}

@@ -1,5 +1,5 @@
 ghost use Rattle.std.specs.Prelude.{◌≡◌};
-ghost use Rattle.outside.specs.Told.{Writes};
+ghost use Rattle.outside.specs.Calls.{Writes};
 ghost use Rattle.sat_log_text.specs.FaultText.{fault_text, fault_number};
 
 use outside::{Failed, Sink, put_all, put_numbered};

@@ -1,5 +1,5 @@
 ghost use Rattle.std.specs.Prelude.{List, ◌⊎◌, ◌≡◌, length, min, Ok, Err, IfOk, IfErr};
-ghost use Rattle.outside.specs.Told.{Writes};
+ghost use Rattle.outside.specs.Calls.{Writes};
 ghost use Rattle.sat_log.specs.Accepted.{IsLog};
 ghost use Rattle.sat_log.specs.declared.line.LogLine.{LogLine};
 ghost use Rattle.sat_log_text.specs.LogText.{text_of, IsTextOf};

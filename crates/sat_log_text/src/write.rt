@@ -2,7 +2,7 @@
 
 ghost use Rattle.std.specs.Prelude.{◌≡◌, ◌++◌, ◌∷◌, ◌≤◌, [], map, decimal, length, min};
 ghost use Rattle.std.specs.List.{flat_map};
-ghost use Rattle.outside.specs.Told.{Writes};
+ghost use Rattle.outside.specs.Calls.{Writes};
 ghost use Rattle.sat_log_text.specs.LogText.{letter, literal_word, zero_word, spaced, hint_words, line_words, line_text, clause_lines, text_of};
 
 use itoa::Buffer;

@@ -16,7 +16,6 @@ use crate::script::Script;
 use outside::{
     Files, Line, LineFault, NullSink, Sink, SoundFiles, SoundSource, Source, Text, Words,
 };
-use shell_model::set_input_file;
 use shell_world::{
     End, Event, Outside, Refusal, ShellEvent, State, World, copy_of, end_saying, lack_memory,
     read_line, say_if, tell_event,
@@ -143,14 +142,14 @@ fn start<W: Outside>(
 }
 
 // Names the model's file, if there is one.
-fn name_model(alloc: Global, state: &mut State, file: Option<&Text>) -> Result<(), AllocError>
+fn name_model(state: &mut State, file: Option<&Text>) -> Result<(), AllocError>
     ensures ok { OnOk result (state.new ≡ naming (option_copied file.entry) state.old) }
     ensures err { OnErr result (state.new ≡ state.old) }
 {
     let Some(file) = file else {
         return Ok(());
     };
-    set_input_file(alloc, &mut state.vars, file)
+    state.vars.set_input_file(file)
 }
 
 // A session that is asked for by right words.
@@ -163,7 +162,7 @@ fn open<W: Outside>(alloc: Global, state: &mut State, world: &mut W, wanted: Wan
     let Ok(script) = copy_of(alloc, wanted.script) else {
         return lack_memory(state, world);
     };
-    let Ok(()) = name_model(alloc, state, wanted.model) else {
+    let Ok(()) = name_model(state, wanted.model) else {
         return lack_memory(state, world);
     };
     start(alloc, state, world, wanted.prompts, script)

@@ -1,5 +1,5 @@
 ghost use Rattle.std.specs.Prelude.{◌≡◌};
-ghost use Rattle.outside.specs.Told.{Writes};
+ghost use Rattle.outside.specs.Calls.{Writes};
 ghost use Rattle.shell_lang.specs.Fault.{number_of, text_of};
 
 use outside::{Failed, Sink, Text, put_all, put_parts};

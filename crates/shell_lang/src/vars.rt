@@ -121,6 +121,23 @@ impl Vars {
         self.values.get(&self.quits)
     }
 
+    /// Sets `input_file`, which takes any value.
+    ///
+    /// # Errors
+    ///
+    /// `AllocError` where memory is refused; nothing has changed then.
+    pub fn set_input_file(&mut self, file: &Text) -> Result<(), AllocError>
+        ensures ok { OnOk result (self.new ≡ with_name self.old (codes "input_file") file.now) }
+        ensures err { OnErr result (self.new ≡ self.old) }
+    {
+        put(
+            self.alloc,
+            &mut self.values,
+            self.input.as_slice(),
+            file.as_slice(),
+        )
+    }
+
     /// The value of `input_file`, if it has one.
     pub fn input_file(&self) -> Option<&Text>
         ensures { option_copied result ≡ at_name self.now (codes "input_file") }

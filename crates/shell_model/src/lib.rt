@@ -12,5 +12,5 @@ mod trace_commands;
 
 pub use laws::{commands_have_causes, refused_command_changes_nothing};
 pub use log_commands::{LOG_COMMANDS, LogCommand, do_log};
-pub use model_commands::{MODEL_COMMANDS, ModelCommand, do_model, set_input_file};
+pub use model_commands::{MODEL_COMMANDS, ModelCommand, do_model};
 pub use trace_commands::{TRACE_COMMANDS, TraceCommand, do_trace};

@@ -1,7 +1,6 @@
 //! The topic of the model.
-ghost use Rattle.std.specs.Prelude.{◌≡◌, ◌≤◌, codes, length, option_copied, None, OnOk, OnErr};
+ghost use Rattle.std.specs.Prelude.{◌≡◌, ◌≤◌, length, option_copied, None};
 ghost use Rattle.std.specs.Option.{option_or};
-ghost use Rattle.shell_lang.specs.Keyed.{with_name};
 ghost use Rattle.shell_world.specs.Processes.{Becomes, MayLack};
 ghost use Rattle.shell_world.specs.Steps.{WithFile};
 ghost use Rattle.shell_world.specs.Outsides.{Does};
@@ -10,7 +9,6 @@ ghost use Rattle.shell_model.specs.ModelCommands.{DoesModel, DoesReadModel, Read
 use bool_replay::{BoolModel, ModelFault};
 use cmd_table::{Given, OptFault, commands};
 use outside::{Text, Words};
-use shell_lang::Vars;
 use shell_world::{
     End, Listed, Outside, Phase, Refusal, Row, State, Work, copy_of, read_file, read_row, refuse,
     refuse_file,
@@ -71,23 +69,6 @@ pub(crate) fn model_refusal(fault: ModelFault) -> Refusal
     }
 }
 
-/// Names the model's file in the variable.
-///
-/// # Errors
-///
-/// `AllocError` where memory is refused; nothing has changed then.
-pub fn set_input_file(alloc: Global, vars: &mut Vars, file: &Text) -> Result<(), AllocError>
-    ensures ok { OnOk result (vars.new ≡ with_name vars.old (codes "input_file") file.now) }
-    ensures err { OnErr result (vars.new ≡ vars.old) }
-{
-    let name = Text::from_slice(alloc, b"input_file")?;
-    match vars.set(&name, file) {
-        Ok(()) => Ok(()),
-        // The variable takes any text.
-        Err(_) => Err(AllocError),
-    }
-}
-
 /// Keeps a model that was read.
 pub(crate) fn take_model(alloc: Global, state: &mut State, model: BoolModel)
     ensures { state.new ≡ with_model model state.old }
@@ -108,7 +89,7 @@ fn keep_read<W: Outside>(
     ensures { Does W.told (MayLack (Becomes (with_read file.now model)))
         state.old world.old result state.new world.new }
 {
-    match set_input_file(alloc, &mut state.vars, file) {
+    match state.vars.set_input_file(file) {
         Ok(()) => {
             take_model(alloc, state, model);
             End::Went

@@ -6,7 +6,7 @@ use Rattle.outside.specs.declared.source.Line.{Line}
 use Rattle.outside.specs.declared.source.LineFault.{LineFault}
 use Rattle.outside.specs.Disk.{ReadsFile, WritesFile}
 use Rattle.outside.specs.Lines.{ReadsLine}
-use Rattle.outside.specs.Told.{Writes}
+use Rattle.outside.specs.Calls.{Writes}
 use Rattle.shell_world.specs.declared.end.End.{End}
 use Rattle.shell_world.specs.declared.event.Event.{Event}
 use Rattle.shell_world.specs.declared.event.Side.{Side}

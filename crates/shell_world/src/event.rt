@@ -1,5 +1,5 @@
 ghost use Rattle.std.specs.Prelude.{◌≡◌};
-ghost use Rattle.outside.specs.Told.{Writes};
+ghost use Rattle.outside.specs.Calls.{Writes};
 ghost use Rattle.shell_world.specs.Texts.{side_of, text_of};
 
 use crate::{LogEvent, Refusal, SettingsEvent, ShellEvent, TraceEvent};

@@ -1,4 +1,4 @@
-ghost use Rattle.outside.specs.Told.{Writes};
+ghost use Rattle.outside.specs.Calls.{Writes};
 ghost use Rattle.shell_world.specs.LogTexts.{accepted_text, ended_text, log_text};
 
 use outside::{Failed, Sink, put_all, put_number, put_numbered};

@@ -1,5 +1,5 @@
 ghost use Rattle.std.specs.Prelude.{◌≡◌, ◌++◌, codes};
-ghost use Rattle.outside.specs.Told.{Writes};
+ghost use Rattle.outside.specs.Calls.{Writes};
 ghost use Rattle.shell_world.specs.Texts.{long_text, no_value_text, refusal_number, refusal_said, refusal_text};
 
 use crate::Phase;

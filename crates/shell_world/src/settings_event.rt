@@ -1,4 +1,4 @@
-ghost use Rattle.outside.specs.Told.{Writes};
+ghost use Rattle.outside.specs.Calls.{Writes};
 ghost use Rattle.shell_world.specs.SettingsTexts.{past_text, settings_text};
 
 use outside::{Failed, Sink, Text, put_number, put_parts};

@@ -1,5 +1,5 @@
 ghost use Rattle.std.specs.Prelude.{◌≡◌};
-ghost use Rattle.outside.specs.Told.{Writes};
+ghost use Rattle.outside.specs.Calls.{Writes};
 ghost use Rattle.shell_world.specs.ShellTexts.{shell_side, shell_text};
 
 use crate::Side;

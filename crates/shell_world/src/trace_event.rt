@@ -1,4 +1,4 @@
-ghost use Rattle.outside.specs.Told.{Writes};
+ghost use Rattle.outside.specs.Calls.{Writes};
 ghost use Rattle.shell_world.specs.TraceTexts.{at_text, cause_line, cause_text, stop_text, trace_text};
 
 use bool_replay::Cause;

@@ -1,9 +1,8 @@
 ghost use Rattle.std.specs.Prelude.{◌≡◌};
-ghost use Rattle.outside.specs.Told.{Writes};
+ghost use Rattle.outside.specs.Calls.{Writes};
 ghost use Rattle.smv_grammar.specs.Faults.{fault_text, number_of, place_of, placed, said};
 
-use itoa::Buffer;
-use outside::{Failed, Sink, put_all, put_parts};
+use outside::{Failed, Sink, put_all, put_numbered, put_parts};
 use smv_tree::{Name, Place};
 use std::alloc::AllocError;
 use thiserror::Error;
@@ -131,11 +130,8 @@ fn put_place<S: Sink>(out: &mut S, place: Option<Place>) -> Result<(), Failed>
     let Some(place) = place else {
         return Ok(());
     };
-    let mut line = Buffer::new();
-    let mut column = Buffer::new();
-    let line = line.format(place.line).as_bytes();
-    let column = column.format(place.column).as_bytes();
-    put_parts(out, &[line, b":", column, b": "])
+    put_numbered(out, b"", place.line as u64, b":")?;
+    put_numbered(out, b"", place.column as u64, b": ")
 }
 
 impl From<AllocError> for ParseFault {

@@ -10,7 +10,8 @@ use Rattle.std.specs.Prelude.{codes, decimal, Result, Ok, Err}
 use Rattle.std.specs.Result.{IsErrAnd}
 use Rattle.std.specs.Fmt.{signed_decimal}
 use Rattle.outside.specs.declared.Failed.{Failed}
-use Rattle.outside.specs.Told.{Output, Writes}
+use Rattle.outside.specs.Calls.{Writes}
+use Rattle.outside.specs.Told.{Output}
 use Rattle.outside.proofs.WriteLemmas.{writes_as, writes_none, writes_returned, writes_stopped, writes_then}
 use Rattle.smv_tree.specs.declared.expr.Branch.{Branch}
 use Rattle.smv_tree.specs.declared.expr.Expr.{Expr}

@@ -3,7 +3,8 @@ use Rattle.std.proofs.Common.{ℕ, List}
 use Rattle.std.proofs.lemmas.Result.{on_ok_weaker}
 use Rattle.std.specs.Prelude.{OnOk, Result}
 use Rattle.outside.specs.declared.Failed.{Failed}
-use Rattle.outside.specs.Told.{Output, Writes}
+use Rattle.outside.specs.Calls.{Writes}
+use Rattle.outside.specs.Told.{Output}
 use Rattle.smv_tree.specs.Models.{Claim}
 use Rattle.smv_tree.specs.Trees.{Tree}
 use Rattle.smv_rules.specs.PartTexts.{SpellsExpr, SpellsFormulaText}

@@ -2,7 +2,8 @@
 use Rattle.std.specs.Io.KnownBytes.{append_known}
 use Rattle.std.specs.Prelude.{◌≡◌, ℕ, Bool, true, false, List, [], ◌∷◌, Result}
 use Rattle.outside.specs.declared.Failed.{Failed}
-use Rattle.outside.specs.Told.{Output, Writes}
+use Rattle.outside.specs.Calls.{Writes}
+use Rattle.outside.specs.Told.{Output}
 use Rattle.smv_tree.specs.Models.{Claim, both}
 use Rattle.smv_tree.specs.Trees.{Tree, Trees, choice, two}
 use Rattle.smv_printing.specs.declared.lead.Lead.{Lead}

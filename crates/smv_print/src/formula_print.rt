@@ -1,7 +1,7 @@
 //! Formulas, as they are printed.
 
 ghost use Rattle.std.specs.Prelude.{◌≡◌, ◌∷◌, ◌++◌, [], OnOk, List, ℕ};
-ghost use Rattle.outside.specs.Told.{Writes};
+ghost use Rattle.outside.specs.Calls.{Writes};
 ghost use Rattle.smv_tree.specs.Models.{formula_claim};
 ghost use Rattle.smv_token.specs.declared.mark.Mark.TheVariants as marks;
 ghost use Rattle.smv_printing.specs.Printing.{around, blank, claim_inks, claim_level, claim_part, claim_printed, level_of_claim, mark_of_claim, symbol, left_of, right_of};

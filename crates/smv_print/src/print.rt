@@ -1,7 +1,7 @@
 //! Expressions, as they are printed.
 
 ghost use Rattle.std.specs.Prelude.{◌≡◌, ◌∷◌, ◌++◌, [], OnOk, List, map, ℕ};
-ghost use Rattle.outside.specs.Told.{Writes};
+ghost use Rattle.outside.specs.Calls.{Writes};
 ghost use Rattle.smv_tree.specs.Trees.{arms, expr_tree, one, trees};
 ghost use Rattle.smv_printing.specs.declared.lead.Lead.TheVariants as lead_is;
 ghost use Rattle.smv_token.specs.declared.mark.Mark.TheVariants as marks;

@@ -1,7 +1,7 @@
 ghost use Rattle.std.specs.Prelude.{◌≡◌, ◌++◌, codes, decimal};
 ghost use Rattle.std.specs.List.{flat_map};
 ghost use Rattle.std.specs.Fmt.{signed_decimal};
-ghost use Rattle.outside.specs.Told.{Writes};
+ghost use Rattle.outside.specs.Calls.{Writes};
 ghost use Rattle.type_fault.specs.Texts.{behind, between, path_text, paths_behind, paths_between, kind_text, said, placed, fault_text};
 
 use crate::TypeFault;
@@ -191,11 +191,8 @@ fn put_place<S: Sink>(out: &mut S, place: Option<Place>) -> Result<(), Failed>
     let Some(place) = place else {
         return Ok(());
     };
-    let mut line = Buffer::new();
-    let mut column = Buffer::new();
-    let line = line.format(place.line).as_bytes();
-    let column = column.format(place.column).as_bytes();
-    put_parts(out, &[line, b":", column, b": "])
+    put_numbered(out, b"", place.line as u64, b":")?;
+    put_numbered(out, b"", place.column as u64, b": ")
 }
 
 impl TypeFault {

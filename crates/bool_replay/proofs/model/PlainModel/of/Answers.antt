@@ -4,7 +4,8 @@ use Rattle.std.specs.Prelude.{codes}
 use Rattle.std.specs.Str.{bytes_eq}
 use Rattle.std.specs.List.{list_all}
 use Rattle.smv_tree.specs.Models.{body_of, part_of, formal_of}
-use Rattle.bool_replay.specs.Plain.{is_plain_program, program_names, is_plain_part, are_distinct, names_of}
+use Rattle.bool_replay.specs.Plain.{is_plain_program, is_plain_part, are_distinct, names_of}
+use Rattle.bool_replay.specs.ProgramNames.{program_names}
 use Rattle.bool_replay.proofs.PlainLemmas.{list_of_one, plain_body, is_empty-map}
 use Rattle.bool_replay.proofs.model.PlainModel.of.Goals as goal
 
