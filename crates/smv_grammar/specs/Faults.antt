@@ -74,7 +74,7 @@ place_of (faults.NoMemory e) = None
 -- the place of a refusal as it is written before what is said: line and column
 abbrev pub placed : Option Place → List ℕ
 placed None = []
-placed (Some p) = decimal p.line ++ (codes ":" ++ (decimal p.column ++ codes ": "))
+placed (Some p) = (decimal p.line ++ codes ":") ++ (decimal p.column ++ codes ": ")
 
 -- what a refusal says
 abbrev pub said : ParseFault → List ℕ

@@ -65,7 +65,7 @@ said (faults.NoMemory e) = codes "out of memory"
 -- a place before what is said: line and column
 abbrev pub placed : Option Place → List ℕ
 placed None = []
-placed (Some p) = decimal p.line ++ (codes ":" ++ (decimal p.column ++ codes ": "))
+placed (Some p) = (decimal p.line ++ codes ":") ++ (decimal p.column ++ codes ": ")
 
 -- the text of a fault behind its number
 abbrev pub fault_text : TypeFault → List ℕ
