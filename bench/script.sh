@@ -11,6 +11,9 @@ dir=$(mktemp -d)
 trap 'rm -rf "$dir"' EXIT
 cd "$dir"
 
+# on first use the launcher builds the program, and says so
+"$top/nusat" < /dev/null
+
 write_lines() {
     awk -v n="$1" 'BEGIN {
         for (k = 1; k <= n; k++) {
