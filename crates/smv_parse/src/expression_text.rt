@@ -6,6 +6,7 @@ ghost use Rattle.smv_rules.specs.PartTexts.{ExplainsExpr, SpellsExpr};
 ghost use Rattle.smv_parse.specs.TextReading.{expression_of};
 
 use crate::faults::{fault_of, halt_fault};
+use smv_expression_reader::level;
 use smv_grammar::{DEEPEST, LOOSEST, ParseFault};
 use smv_reader::{Halt, Reader};
 use smv_token::{ScannedText, Token, scan};
@@ -21,7 +22,7 @@ fn expression(alloc: Global, tokens: &[Token]) -> Result<Expr, Halt>
         alloc,
         room: DEEPEST,
     };
-    let (part, rest) = reader.level(LOOSEST, tokens)?;
+    let (part, rest) = level(reader, LOOSEST, tokens)?;
     if !rest.is_empty() {
         return Err(Halt::Wrong(rest.len()));
     }

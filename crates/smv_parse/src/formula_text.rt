@@ -6,14 +6,15 @@ ghost use Rattle.smv_rules.specs.PartTexts.{ExplainsFormula, SpellsFormulaText};
 ghost use Rattle.smv_parse.specs.TextReading.{formula_of};
 
 use crate::faults::{fault_of, halt_fault};
+use smv_formula_reader::{formula, group_flags};
 use smv_grammar::{DEEPEST, OUTERMOST, ParseFault};
-use smv_reader::{Halt, Reader, group_flags};
+use smv_reader::{Halt, Reader};
 use smv_token::{ScannedText, Token, scan};
 use smv_tree::Formula;
 use std::alloc::{AllocError, Global};
 
 /// The formula of all tokens.
-#[tactic(auto, using(smv_reader::proofs::GroupFlags::all_flagged), unfolding(crate::specs::TextReading::formula_of))]
+#[tactic(auto, using(smv_formula_reader::proofs::GroupFlags::all_flagged), unfolding(crate::specs::TextReading::formula_of))]
 fn whole_formula(alloc: Global, tokens: &[Token]) -> Result<Formula, Halt>
     ensures { Reads formula_claim result (formula_of tokens.now) }
 {
@@ -22,7 +23,7 @@ fn whole_formula(alloc: Global, tokens: &[Token]) -> Result<Formula, Halt>
         alloc,
         room: DEEPEST,
     };
-    let (part, rest) = reader.formula(flags.as_slice(), OUTERMOST, tokens)?;
+    let (part, rest) = formula(reader, flags.as_slice(), OUTERMOST, tokens)?;
     if !rest.is_empty() {
         return Err(Halt::Wrong(rest.len()));
     }

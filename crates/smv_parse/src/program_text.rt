@@ -6,14 +6,16 @@ ghost use Rattle.smv_rules.specs.Texts.{ExplainsProgram, SpellsProgram};
 ghost use Rattle.smv_parse.specs.TextReading.{modules_of};
 
 use crate::faults::{fault_of, halt_fault};
+use smv_formula_reader::group_flags;
 use smv_grammar::{DEEPEST, ParseFault};
-use smv_reader::{Halt, Reader, group_flags};
+use smv_program_reader::program;
+use smv_reader::{Halt, Reader};
 use smv_token::{ScannedText, Token, scan};
 use smv_tree::Program;
 use std::alloc::{AllocError, Global};
 
 /// The program of all tokens.
-#[tactic(auto, using(smv_reader::proofs::GroupFlags::all_flagged), unfolding(crate::specs::TextReading::modules_of))]
+#[tactic(auto, using(smv_formula_reader::proofs::GroupFlags::all_flagged), unfolding(crate::specs::TextReading::modules_of))]
 fn whole_program(alloc: Global, tokens: &[Token]) -> Result<Program, Halt>
     ensures { Reads bodies result (modules_of tokens.now) }
 {
@@ -22,7 +24,7 @@ fn whole_program(alloc: Global, tokens: &[Token]) -> Result<Program, Halt>
         alloc,
         room: DEEPEST,
     };
-    let (program, rest) = reader.program(flags.as_slice(), tokens)?;
+    let (program, rest) = program(reader, flags.as_slice(), tokens)?;
     if !rest.is_empty() {
         return Err(Halt::Wrong(rest.len()));
     }

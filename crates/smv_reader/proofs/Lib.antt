@@ -1,9 +1,3 @@
 pub mod Loops
-pub mod Climbing
-pub mod Turning
-pub mod Levels
-pub mod GroupFlags
+pub mod Parts
 pub mod Steps
-pub mod FormulaLevels
-pub mod Flags
-pub mod Options

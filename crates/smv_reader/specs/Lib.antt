@@ -1,10 +1,4 @@
 pub mod Halts
-pub mod Flags
 pub mod Turns
 pub mod Views
-pub mod Climbing
-pub mod Waiting
-pub mod Headings
-pub mod FormulaViews
 pub mod Steps
-pub mod FormulaClimbing

@@ -1,6 +1,7 @@
 ghost use Rattle.std.specs.Prelude.{◌≡◌};
 ghost use Rattle.smv_reader.specs.Halts.{Reads};
 ghost use Rattle.smv_rules.specs.Expressions.{an_int, mark, name, number, optional};
+ghost use Rattle.smv_rules.specs.Keys.{begins_with};
 ghost use Rattle.smv_rules.specs.Running.{run};
 
 use crate::halt::Halt;
@@ -81,5 +82,19 @@ impl Reader {
         let (minus, rest) = self.eat(Mark::Minus, tokens)?;
         let (number, rest) = self.number(rest)?;
         Ok((integer(minus, number), rest))
+    }
+}
+
+/// Whether a mark stands at the front.
+#[tactic(auto, unfolding(smv_grammar::specs::IsMark::same_mark))]
+pub fn begins_with(wanted: Mark, tokens: &[Token]) -> bool
+    ensures { result ≡ begins_with wanted tokens.now }
+{
+    let [first, ..] = tokens else {
+        return false;
+    };
+    match first.lexeme {
+        Lexeme::Mark(found) => wanted == found,
+        _ => false,
     }
 }

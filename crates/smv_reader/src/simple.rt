@@ -1,18 +1,21 @@
-ghost use Rattle.std.specs.Prelude.{◌≡◌, ◌≤◌, ◌∷◌, [], IfOk, false, length};
-ghost use Rattle.smv_tree.specs.Trees.{expr_tree};
-ghost use Rattle.smv_reader.specs.Halts.{Reads};
-ghost use Rattle.smv_rules.specs.Expressions.{bracketed, constant, deeper, more_names, primary_from, range_from, selecting};
-ghost use Rattle.smv_rules.specs.Keys.{below, digits, path};
+ghost use Rattle.std.specs.Prelude.{◌≡◌, ◌≤◌, ◌∷◌, [], IfOk, false, length, max};
+ghost use Rattle.smv_tree.specs.Trees.{expr_tree, two};
+ghost use Rattle.smv_reader.specs.Halts.{Halts, Reads};
+ghost use Rattle.smv_rules.specs.Expressions.{bracketed, constant, deeper, last_semicolon, more_names, primary_from, range_from, selecting};
+ghost use Rattle.smv_rules.specs.Keys.{below, digits, operand, path};
+ghost use Rattle.smv_rules.specs.Rules.{bits, must, part, too_deep};
 ghost use Rattle.smv_rules.specs.Running.{run};
+ghost use Rattle.smv_rules.specs.Sorts.{an_expression};
 ghost use Rattle.smv_reader.specs.Turns.{seen_rest, turn};
 ghost use Rattle.smv_reader.specs.Views.{expression_of, found};
 
 use crate::halt::Halt;
+use crate::opening::begins_operand;
 use crate::parsed::Parsed;
-use crate::reader::Reader;
+use crate::reader::{Reader, begins_with};
 use smv_grammar::{DEEPEST, capped, integer};
-use smv_token::{Mark, Token};
-use smv_tree::{Expr, Name, Path, Place};
+use smv_token::{Lexeme, Mark, Token};
+use smv_tree::{Expr, Name, Op2, Path, Place};
 use std::alloc::AllocError;
 
 impl Parsed {
@@ -200,5 +203,77 @@ impl Reader {
         let (width, rest) = self.number(rest)?;
         let (_, rest) = self.expect(Mark::CloseRound, rest)?;
         self.deeper(Expr::Const(place, signed, value, capped(width)), 1, rest)
+    }
+
+    /// Two operands and the operator between them.
+    #[inline(never)]
+    pub fn joined(
+        self,
+        left: Parsed,
+        op: Op2,
+        place: Place,
+        right: Parsed,
+        rest: &[Token],
+    ) -> Result<(Parsed, &[Token]), Halt>
+        ensures { Reads found result (run self.room (deeper (two place op (expr_tree left.expr) (expr_tree right.expr)) (max left.depth right.depth)) rest.now) }
+    {
+        let depth = left.depth.max(right.depth);
+        let left = Box::new(self.alloc, left.expr)?;
+        let right = Box::new(self.alloc, right.expr)?;
+        self.deeper(Expr::Two(place, op, left, right), depth, rest)
+    }
+
+    /// Bits of an expression, behind the `[`, where there is room for one more nesting.
+    #[tactic(auto, using(crate::proofs::Parts::part_inner), unfolding(smv_rules::specs::Running::run, smv_rules::specs::Table::table))]
+    #[inline(never)]
+    pub fn selected(
+        self,
+        whole: Parsed,
+        place: Place,
+        tokens: &[Token],
+    ) -> Result<(Parsed, &[Token]), Halt>
+        ensures { Reads found result (run self.room (part an_expression (bits (expression_of whole) place) (too_deep an_expression)) tokens.now) }
+    {
+        if self.room < 1 {
+            return Err(Halt::Deep(tokens.len()));
+        }
+        let room = self.room - 1;
+        let inner = Reader {
+            alloc: self.alloc,
+            room,
+        };
+        inner.selecting(whole, place, tokens)
+    }
+
+    /// Where a part that is open from its own first token has no room.
+    #[tactic(auto, unfolding(smv_rules::specs::Running::run, smv_rules::specs::Keys::sees))]
+    pub fn side_too_deep(self, tokens: &[Token]) -> Halt
+        ensures { Halts result (run 0 (must an_expression operand (λ p. too_deep an_expression)) tokens.now) }
+    {
+        let [first, rest @ ..] = tokens else {
+            return Halt::Wrong(0);
+        };
+        if begins_operand(&first.lexeme) {
+            Halt::Deep(rest.len())
+        } else {
+            Halt::Wrong(tokens.len())
+        }
+    }
+
+    /// The `;` before the end of a case.
+    #[tactic(auto, unfolding(smv_rules::specs::Running::run, smv_rules::specs::Keys::sees, smv_grammar::specs::IsMark::same_mark))]
+    pub fn last_semicolon(self, tokens: &[Token]) -> Result<(Place, &[Token]), Halt>
+        ensures { Reads (λ x. (x.0, x.1.now)) result (run self.room last_semicolon tokens.now) }
+    {
+        let [first, rest @ ..] = tokens else {
+            return Err(Halt::Wrong(0));
+        };
+        if !begins_with(Mark::Esac, rest) {
+            return Err(Halt::Wrong(tokens.len()));
+        }
+        match first.lexeme {
+            Lexeme::Mark(found) if Mark::Semicolon == found => Ok((first.place, rest)),
+            _ => Err(Halt::Wrong(tokens.len())),
+        }
     }
 }

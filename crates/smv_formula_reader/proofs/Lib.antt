@@ -1,0 +1,3 @@
+pub mod GroupFlags
+pub mod FormulaLevels
+pub mod Flags

@@ -1,0 +1,3 @@
+pub mod Flags
+pub mod FormulaViews
+pub mod FormulaClimbing
