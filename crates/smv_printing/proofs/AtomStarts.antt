@@ -33,7 +33,6 @@ pub record Start (ts : List Token) : Type 0 where
   pub first : Token
   pub others : List Token
   pub is : ts ≡ first ∷ others
-  pub operand : is_operand first.lexeme ≡ true
   pub calm : role first ≡ opens → holds_temporal 0 others ≡ false
 
 -- a bracket around an expression
@@ -57,29 +56,15 @@ primary_calm zero t (key.opens key.round) p us rest x e h a r = absurd (inverse 
 primary_calm (suc n) t (key.opens key.round) p us rest x e h a r = enclosed_calm n us rest x (inverse h) a
 primary_calm n t o p us rest x e h a r = absurd (no_opens t e r)
 
-operand_by : (w : Lexeme) (o : Option Primary) → primary_of w ≡ o → present o ≡ true → is_operand w ≡ true
-operand_by w o e h = by (is_mark marks.Bang w) where
-  by : (b : Bool) → cond b true (present (primary_of w)) ≡ true
-  by true = refl
-  by false = ap (λ (o : Option Primary). present o) e ∙ h
-
 primary_starts : (n : ℕ) (ts rest : List Token) (x : Expression) → Follows follows.plain n an_expression primary ts rest x → AllScannable ts → Start ts
 unfolding Inverse sees
 primary_starts n ts rest x h a =
     let k = inverse h in
     let e = placed (primary_of k.first.lexeme) k.first.place k.load k.seen in
-    record { first = k.first; others = k.others; is = k.is; operand = operand_by k.first.lexeme (Some k.load.0) e refl; calm = primary_calm n k.first k.load.0 k.load.1 k.others rest x (primary_seen k.first.lexeme k.load.0 e) k.follows (past k.is a) }
+    record { first = k.first; others = k.others; is = k.is; calm = primary_calm n k.first k.load.0 k.load.1 k.others rest x (primary_seen k.first.lexeme k.load.0 e) k.follows (past k.is a) }
 
-bang_operand : (w : Lexeme) → w ≡ lexeme.Mark marks.Bang → is_operand w ≡ true
-unfolding same_mark
-bang_operand w e = ap is_operand e
-
-minus_operand : (w : Lexeme) → w ≡ lexeme.Mark marks.Minus → is_operand w ≡ true
-unfolding same_mark primary_by
-minus_operand w e = ap is_operand e
-
-mark_start : (m : Mark) (t : Token) (us ts : List Token) → ts ≡ t ∷ us → t.lexeme ≡ lexeme.Mark m → role_of (lexeme.Mark m) ≡ plain → is_operand t.lexeme ≡ true → Start ts
-mark_start m t us ts i e r o = record { first = t; others = us; is = i; operand = o; calm = λ s. absurd (no_opens t (ap role_of e ∙ r) s) }
+mark_start : (m : Mark) (t : Token) (us ts : List Token) → ts ≡ t ∷ us → t.lexeme ≡ lexeme.Mark m → role_of (lexeme.Mark m) ≡ plain → Start ts
+mark_start m t us ts i e r = record { first = t; others = us; is = i; calm = λ s. absurd (no_opens t (ap role_of e ∙ r) s) }
 
 level_starts : (n l : ℕ) (tighter : Rule an_expression) → ((ts rest : List Token) (x : Expression) → Follows follows.plain n an_expression tighter ts rest x → AllScannable ts → Start ts) → (ts rest : List Token) (x : Expression) → Follows follows.plain n an_expression (level_from l tighter) ts rest x → AllScannable ts → Start ts
 unfolding Inverse sees
@@ -87,11 +72,11 @@ level_starts n l tighter more ts rest x h a = by_test (l == 1) (l == 2) (l == 4)
   by_test : (b c d e f : Bool) → Follows follows.plain n an_expression (cond b (tighter >>= selected) (cond c (may an_expression (key.mark marks.Bang) (λ p. prefixed p op1.Not 2) tighter) (cond d (may an_expression key.minus (λ p. prefixed p op1.Neg 4) tighter) (cond e (tighter >>= chosen) (cond f (tighter >>= implied) (tighter >>= joined l tighter)))))) ts rest x → Start ts
   by_test true c d e f h = let k = inverse h in more ts k.between k.given k.before a
   by_test false true d e f h = elim (inverse h) [
-    | inl k ↦ let i = is_mark_true marks.Bang k.first.lexeme (there (is_mark marks.Bang k.first.lexeme) k.first.place k.load k.seen) in mark_start marks.Bang k.first k.others ts k.is i refl (bang_operand k.first.lexeme i)
+    | inl k ↦ mark_start marks.Bang k.first k.others ts k.is (is_mark_true marks.Bang k.first.lexeme (there (is_mark marks.Bang k.first.lexeme) k.first.place k.load k.seen)) refl
     | inr k ↦ more ts rest x k.1 a
   ]
   by_test false false true e f h = elim (inverse h) [
-    | inl k ↦ let i = is_mark_true marks.Minus k.first.lexeme (not_first (begins_range k.others) (is_mark marks.Minus k.first.lexeme) k.first.place k.load k.seen) in mark_start marks.Minus k.first k.others ts k.is i refl (minus_operand k.first.lexeme i)
+    | inl k ↦ mark_start marks.Minus k.first k.others ts k.is (is_mark_true marks.Minus k.first.lexeme (not_first (begins_range k.others) (is_mark marks.Minus k.first.lexeme) k.first.place k.load k.seen)) refl
     | inr k ↦ more ts rest x k.1 a
   ]
   by_test false false false true f h = let k = inverse h in more ts k.between k.given k.before a
@@ -115,15 +100,11 @@ atom_prefix (lexeme.Mark m) h o b = by m h o b where
   by marks.OpenRound true o b = refl
   by marks.OpenRound false o b = refl
   by m h o b = refl
-atom_prefix (lexeme.Name n) h o b = refl
-atom_prefix (lexeme.Number n) h o b = refl
-atom_prefix (lexeme.Word v) h o b = refl
+atom_prefix w h o b = refl
 
 pub atom_group : (w : Lexeme) (h : Bool) → (role_of w ≡ opens → h ≡ false) → is_bracket (start_at w h) ≡ false
 atom_group (lexeme.Mark m) h c = by m c where
   by : (m : Mark) → (role_of (lexeme.Mark m) ≡ opens → h ≡ false) → is_bracket (start_by m h) ≡ false
   by marks.OpenRound c = ap (λ h. is_bracket (bracket_if h)) (c refl)
   by m c = refl
-atom_group (lexeme.Name n) h c = refl
-atom_group (lexeme.Number n) h c = refl
-atom_group (lexeme.Word v) h c = refl
+atom_group w h c = refl

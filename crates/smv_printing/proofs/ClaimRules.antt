@@ -37,12 +37,6 @@ Kept n r ts rest x = Unit {1}
 
 pub kept : {n : ℕ} {s : Sort} {r : Rule s} {ts rest : List Token} {x : Gift s} → Follows plain n s r ts rest x → Kept n r ts rest x
 unfolding Kept
-kept (done n s x ts) = tt
-kept (has n s k f t p ts rest x e h) = tt
-kept (takes n s k f r t p ts rest x e h) = tt
-kept (skips n s k f r ts rest x u h) = tt
-kept (nests n s p r ts rest x h) = tt
-kept (stays s p r ts rest x h) = tt
-kept (chains n z s r f ts us rest a x h j) = tt
 kept (stops n s k f a ts u) = λ I step i. i
 kept (goes_on n s k f a t p ts us rest b x e h j) = λ I step i. kept j I step (step a t p ts us b i e h)
+kept h = tt

@@ -77,28 +77,28 @@ claim_looser l m x le h = record { well = h.well; brackets = h.brackets; timely 
   by_test false e = let a = (placed_most l x.claim d).1 in let b = h.shallow in omega (arith, a, b)
 
 -- an operator before a formula
-abbrev pub Before : (Claim → Claim) → Type 0
-Before f = (x : Formula) → ClaimFits 1 x → x.depth < deepest → ClaimFits 1 (record { claim = f x.claim; depth = suc x.depth })
+pub record Prefixes (w : Lexeme) (f : Claim → Claim) : Type 0 where
+  pub level : is_round (role_of w) ≡ false
+  pub words : (x : Claim) → (is_temporal (role_of w) || timed x) ≡ timed (f x)
+  pub fits : (x : Formula) → ClaimFits 1 x → x.depth < deepest → ClaimFits 1 (record { claim = f x.claim; depth = suc x.depth })
 
-abbrev BeforeIf : Option (Claim → Claim) → Type 0
-BeforeIf None = Unit {0}
-BeforeIf (Some f) = Before f
+abbrev PrefixIf : Lexeme → Option (Claim → Claim) → Type 0
+PrefixIf w None = Unit {0}
+PrefixIf w (Some f) = Prefixes w f
 
-before_marks : (m : _) (h : Bool) → BeforeIf (prefix_of (start_at (lexeme.Mark m) h))
+prefix_marks : (m : Mark) (h : Bool) → PrefixIf (lexeme.Mark m) (prefix_of (start_by m h))
 unfolding claim_depth Bracketed ClaimScannable
-before_marks marks.Bang h = λ x g w. let s = g.shallow in record { well = g.well; brackets = (g.brackets, g.timely); timely = λ e. true_is e (timed (no x.claim)); shallow = omega (arith, s); within = w }
-before_marks marks.WordX h = λ x g w. let s = g.shallow in record { well = g.well; brackets = (g.brackets, g.timely); timely = λ e. refl; shallow = omega (arith, s); within = w }
-before_marks marks.WordG h = λ x g w. let s = g.shallow in record { well = g.well; brackets = (g.brackets, g.timely); timely = λ e. refl; shallow = omega (arith, s); within = w }
-before_marks marks.WordF h = λ x g w. let s = g.shallow in record { well = g.well; brackets = (g.brackets, g.timely); timely = λ e. refl; shallow = omega (arith, s); within = w }
-before_marks marks.OpenRound true = tt
-before_marks marks.OpenRound false = tt
-before_marks m h = tt
+prefix_marks marks.Bang h = record { level = refl; words = λ x. refl; fits = λ x g w. let s = g.shallow in record { well = g.well; brackets = (g.brackets, g.timely); timely = λ e. true_is e (timed (no x.claim)); shallow = omega (arith, s); within = w } }
+prefix_marks marks.WordX h = record { level = refl; words = λ x. refl; fits = λ x g w. let s = g.shallow in record { well = g.well; brackets = (g.brackets, g.timely); timely = λ e. true_is e (timed (after x.claim)); shallow = omega (arith, s); within = w } }
+prefix_marks marks.WordG h = record { level = refl; words = λ x. refl; fits = λ x g w. let s = g.shallow in record { well = g.well; brackets = (g.brackets, g.timely); timely = λ e. true_is e (timed (always x.claim)); shallow = omega (arith, s); within = w } }
+prefix_marks marks.WordF h = record { level = refl; words = λ x. refl; fits = λ x g w. let s = g.shallow in record { well = g.well; brackets = (g.brackets, g.timely); timely = λ e. true_is e (timed (some_time x.claim)); shallow = omega (arith, s); within = w } }
+prefix_marks marks.OpenRound true = tt
+prefix_marks marks.OpenRound false = tt
+prefix_marks m h = tt
 
-pub before : (w : Lexeme) (h : Bool) (f : Claim → Claim) → prefix_of (start_at w h) ≡ Some f → Before f
-before (lexeme.Mark m) h f e = subst BeforeIf e (before_marks m h)
-before (lexeme.Name n) h f e = absurd (cc)
-before (lexeme.Number n) h f e = absurd (cc)
-before (lexeme.Word v) h f e = absurd (cc)
+pub prefixes : (w : Lexeme) (h : Bool) (f : Claim → Claim) → prefix_of (start_at w h) ≡ Some f → Prefixes w f
+prefixes (lexeme.Mark m) h f e = subst (PrefixIf (lexeme.Mark m)) e (prefix_marks m h)
+prefixes w h f e = absurd (cc)
 
 pub round_fits : (x : Formula) → timed x.claim ≡ true → ClaimFits outermost x → x.depth < deepest → ClaimFits 1 (record { claim = x.claim; depth = suc x.depth })
 round_fits x t h w = let a = (placed_most 1 x.claim (claim_depth x.claim)).0 in let b = (placed_most outermost x.claim (claim_depth x.claim)).1 in let c = h.shallow in record { well = h.well; brackets = h.brackets; timely = λ e. t; shallow = omega (arith, a, b, c); within = w }

@@ -27,9 +27,9 @@ use Rattle.smv_printing.proofs.Fits.{Fits}
 use Rattle.smv_printing.proofs.Giving.{Spans, levels_of, stepped, there}
 use Rattle.smv_printing.proofs.GivenParts.{level_gives}
 use Rattle.smv_printing.proofs.Gave.{gave}
-use Rattle.smv_printing.proofs.Timed.{bracket_opens, is_timed, joins, no_prefix, prefixes, timed, word_step}
+use Rattle.smv_printing.proofs.Timed.{bracket_opens, is_timed, joins, no_prefix, timed, word_step}
 use Rattle.smv_printing.proofs.ClaimRules.{Inverse, Kept, inverse, kept}
-use Rattle.smv_printing.proofs.ClaimsFit.{Bracketed, ClaimFits, ClaimGave, before, claim_at, claim_depth, claim_looser, deeper_is, joined_fits, round_fits, true_is}
+use Rattle.smv_printing.proofs.ClaimsFit.{Bracketed, ClaimFits, ClaimGave, claim_at, claim_depth, claim_looser, deeper_is, joined_fits, prefixes, round_fits, true_is}
 
 -- round brackets
 pub open_step : (t : Token) (ts : List Token) → role t ≡ opens → (m : ℕ) → holds_temporal m (t ∷ ts) ≡ holds_temporal (suc m) ts
@@ -93,7 +93,7 @@ prefix_gave n nest ts rest x h a =
     let e = deeper_is n (f c.given.claim) c.given.depth c.between rest x c.behind in
     let p = prefixes t.lexeme (holds_temporal 0 h.others) f h.seen in
     subst (λ ts. ClaimGave 1 ts rest x) (sym h.is) (claim_at 1 (t ∷ h.others) c.between rest x (record { claim = f c.given.claim; depth = suc c.given.depth }) e.0 e.1 (record {
-      fits = before t.lexeme (holds_temporal 0 h.others) f h.seen c.given g.fits e.2;
+      fits = p.fits c.given g.fits e.2;
       words = λ m. word_step t h.others p.level m ∙ ap (λ b. is_temporal (role t) || b) (g.words m) ∙ or_both (is_temporal (role t)) (timed c.given.claim) (holds_temporal m c.between) ∙ ap (λ b. b || holds_temporal m c.between) (p.words c.given.claim);
       scannable = g.scannable;
     }))
@@ -169,8 +169,8 @@ both_gave n l i j ts us rest t o b x r el er claims see g h =
     let e = deeper_is n (both o b.claim c.given.claim) (max b.depth c.given.depth) c.between rest x c.behind in
     let q = joins t.lexeme (l, o) (levels_of l (joining t) o see) in
     claim_at l ts c.between rest x (record { claim = both o b.claim c.given.claim; depth = suc (max b.depth c.given.depth) }) e.0 e.1 (record {
-      fits = joined_fits o l i j b c.given q.own el er g.fits k.fits e.2;
-      words = λ m. g.words m ∙ ap (λ z. timed b.claim || z) (word_step t us q.level m ∙ ap (λ z. z || holds_temporal m us) q.words ∙ ap (λ z. is_timed o || z) (k.words m)) ∙ either_same (timed b.claim) (is_timed o) (timed c.given.claim) (holds_temporal m c.between);
+      fits = joined_fits o l i j b c.given q.2 el er g.fits k.fits e.2;
+      words = λ m. g.words m ∙ ap (λ z. timed b.claim || z) (word_step t us q.0 m ∙ ap (λ z. z || holds_temporal m us) q.1 ∙ ap (λ z. is_timed o || z) (k.words m)) ∙ either_same (timed b.claim) (is_timed o) (timed c.given.claim) (holds_temporal m c.between);
       scannable = k.scannable;
     })
 

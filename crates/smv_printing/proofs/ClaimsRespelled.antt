@@ -12,7 +12,7 @@ use Rattle.smv_token.specs.declared.token.Token.{Token}
 use Rattle.smv_token.specs.declared.token.Lexeme.TheVariants as lexeme
 use Rattle.smv_grammar.specs.Forms.{deepest, is_dots}
 use Rattle.smv_grammar.specs.Formulas.{bracket_if, holds_temporal, outermost, start_at, start_by}
-use Rattle.smv_rules.specs.Keys.{begins_with, if_there, is_bracket, prefix_of, sees}
+use Rattle.smv_rules.specs.Keys.{if_there, is_bracket, prefix_of, sees}
 use Rattle.smv_rules.specs.Keys as key
 use Rattle.smv_rules.specs.Sorts.{Formula, a_formula, an_expression}
 use Rattle.smv_rules.specs.Rules.{Rule, gives, too_deep, ◌>>=◌}
@@ -27,7 +27,7 @@ use Rattle.smv_printing.specs.Scannables.{ClaimScannable, Scannables}
 use Rattle.smv_printing.proofs.PrintedDepth.{place_some}
 use Rattle.smv_printing.proofs.Says.{Says, past, said_at, says_blank, says_ends, says_gives, says_joined, says_mark, says_part, says_skips, says_stops, says_takes, says_then, sees_alone, stands}
 use Rattle.smv_printing.proofs.SaysLevels.{in_place}
-use Rattle.smv_printing.proofs.Openings.{no_bang, opens_in}
+use Rattle.smv_printing.proofs.Openings.{atom_opens, opens_in}
 use Rattle.smv_printing.proofs.RespelledTrees.{respelled}
 use Rattle.smv_printing.proofs.Timed.{timed, timed_alike}
 use Rattle.smv_printing.proofs.ClaimsFit.{Bracketed, Timely, claim_depth, placed_depth}
@@ -88,7 +88,7 @@ atom_again x s n le small = record {
   along = λ ts rest l q a.
       let y = (in_place x (respelled x s) lead.Atom 10 n le small).along ts rest l q a in
       let o = starts n 10 ts rest y.given y.follows a in
-      let b = ap (begins_with marks.Bang) (sym o.is) ∙ no_bang (spelled lead.Atom 10 x) ts rest (opens_in x lead.Atom 10 s) l in
+      let w = atom_opens 10 (spelled lead.Atom 10 x) ts rest o.others o.first (opens_in x lead.Atom 10 s) l o.is in
       let c : Formula = record { claim = atom y.given.tree; depth = y.given.depth } in
       let t = o.first in
       let us = o.others in
@@ -97,7 +97,7 @@ atom_again x s n le small = record {
       let group_is = unseen (is_bracket (start_at t.lexeme (holds_temporal 0 us))) t.place (atom_group t.lexeme (holds_temporal 0 us) o.calm) in
       said_at o.is (record {
         given = c;
-        follows = skips n a_formula key.before_formula _ _ (t ∷ us) rest c (atom_prefix t.lexeme (holds_temporal 0 us) o.operand b) (skips n a_formula key.group _ _ (t ∷ us) rest c group_is atom_is);
+        follows = skips n a_formula key.before_formula _ _ (t ∷ us) rest c (atom_prefix t.lexeme (holds_temporal 0 us) w.0 w.1) (skips n a_formula key.group _ _ (t ∷ us) rest c group_is atom_is);
         holds = record { alike = ap atom y.holds.alike; small = y.holds.small };
       });
 }

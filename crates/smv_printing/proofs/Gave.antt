@@ -18,15 +18,8 @@ pub record Gave (i : ℕ) {X : Type 0} (P : ℕ → X → Type 0) (ts rest : Lis
   pub scannable : AllScannable rest
 
 fails : {m : Mode} {n : ℕ} {s : Sort} {r : Rule s} {ts rest : List Token} {x : Gift s} → Follows m n s r ts rest x → Fails r → ⊥
-fails (done n s x ts) h = h
 fails (has n s k f t p ts rest x e j) h = fails j (h p)
-fails (takes n s k f r t p ts rest x e j) h = h
-fails (skips n s k f r ts rest x u j) h = h
-fails (nests n s p r ts rest x j) h = h
-fails (stays s p r ts rest x j) h = h
-fails (chains n z s r f ts us rest a x j i) h = h
-fails (stops n s k f a ts u) h = h
-fails (goes_on n s k f a t p ts us rest b x e j i) h = h
+fails f h = h
 
 abbrev Cleanly : Bool → List Token → Type 0
 Cleanly c ts = (c ≡ true → begins_with marks.Bang ts ≡ false)

@@ -195,21 +195,15 @@ mark_role m w e = ap role_of (is_mark_true m w e)
 
 pub primary_seen : (w : Lexeme) (o : Primary) → primary_of w ≡ Some o → role_of w ≡ primary_role o
 primary_seen (lexeme.Mark m) o e = primary_marks m ∙ ap (λ q. role_or (role_of_mark m) primary_role q) e
-primary_seen (lexeme.Name n) o e = ap (λ q. role_or plain primary_role q) e
-primary_seen (lexeme.Number n) o e = ap (λ q. role_or plain primary_role q) e
-primary_seen (lexeme.Word v) o e = ap (λ q. role_or plain primary_role q) e
+primary_seen w o e = ap (λ q. role_or plain primary_role q) e
 
 name_seen : (w : Lexeme) (n : List ℕ) → name_of w ≡ Some n → w ≡ lexeme.Name n
 name_seen (lexeme.Name n) o e = ap lexeme.Name (let s : n ≡ o = cc in s)
-name_seen (lexeme.Mark m) o e = absurd (cc)
-name_seen (lexeme.Number n) o e = absurd (cc)
-name_seen (lexeme.Word v) o e = absurd (cc)
+name_seen w o e = absurd (cc)
 
 number_seen : (w : Lexeme) (n : ℕ) → number_of w ≡ Some n → w ≡ lexeme.Number n
 number_seen (lexeme.Number n) o e = ap lexeme.Number (let s : n ≡ o = cc in s)
-number_seen (lexeme.Mark m) o e = absurd (cc)
-number_seen (lexeme.Name n) o e = absurd (cc)
-number_seen (lexeme.Word v) o e = absurd (cc)
+number_seen w o e = absurd (cc)
 
 pub levels_of : {X : Type 0} (l : ℕ) (q : Option (ℕ × X)) (o : X) → of_level l q ≡ Some o → q ≡ Some (l, o)
 levels_of l None o e = absurd (cc)
@@ -220,9 +214,7 @@ levels_of {X} l (Some i) o e = by_test (i.0 == l) refl e where
 
 operator_seen : (w : Lexeme) (l : ℕ) (o : Op2) → by_mark infix_of (mark_of w) ≡ Some (l, o) → (role_of w ≡ plain) × OwnOperator l o
 operator_seen (lexeme.Mark m) l o e = (infix_marks m ∙ ap (λ q. role_or (role_of_mark m) (λ o. plain) q) e, subst Levelled e (levelled m))
-operator_seen (lexeme.Name n) l o e = absurd (cc)
-operator_seen (lexeme.Number n) l o e = absurd (cc)
-operator_seen (lexeme.Word v) l o e = absurd (cc)
+operator_seen w l o e = absurd (cc)
 
 pub role_seen : (k : Key) (t : Token) (ts : List Token) (p : Payload k) (i : ℕ) (Q : ℕ → Type 0) → sees k t ts ≡ Some p → After (role_by k p) i Q → role t ≡ role_by k p
 unfolding sees
@@ -259,8 +251,7 @@ own_marks m = tt
 own_primary : (w : Lexeme) (o : Primary) → primary_of w ≡ Some o → Scannable w → OwnPrimary o
 own_primary (lexeme.Mark m) o e s = subst OwnIf e (own_marks m)
 own_primary (lexeme.Name n) o e s = subst OwnIf e (head_scannable n s)
-own_primary (lexeme.Number n) o e s = subst OwnIf e s
-own_primary (lexeme.Word v) o e s = subst OwnIf e s
+own_primary w o e s = subst OwnIf e s
 
 pub saw : (k : Key) (c : Bool) (t : Token) (ts : List Token) (p : Payload k) → sees k t ts ≡ Some p → Scannable t.lexeme → (c ≡ true → is_mark marks.Bang t.lexeme ≡ false) → Saw k c p
 unfolding sees

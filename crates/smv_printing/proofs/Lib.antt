@@ -1,15 +1,14 @@
 pub mod ReadMarks
 pub mod ReadNumbers
 pub mod ReadInks
-pub mod InkFronts
-pub mod PartedInks
 pub mod ScannedTokens
-pub mod PrintedTexts
 pub mod PrintedDepth
 pub mod Says
 pub mod SaysLevels
 pub mod Respelled
 pub mod Openings
+pub mod PartedInks
+pub mod PrintedTexts
 pub mod RespelledCases
 pub mod RespelledTrees
 pub mod Fits

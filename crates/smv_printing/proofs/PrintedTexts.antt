@@ -1,5 +1,5 @@
 -- What is printed of an expression or a formula is read back as the tokens that were printed.
-use Rattle.std.proofs.Common.{◌≡◌, ℕ, Bool, true, false, cond, nat_lt, List, [], ◌∷◌, ◌++◌, Option, Some, None, refl, subst}
+use Rattle.std.proofs.Common.{◌≡◌, ℕ, Bool, true, false, cond, nat_lt, List, [], ◌∷◌, ◌++◌, Option, Some, None, refl, sym, subst}
 use Rattle.smv_tree.specs.declared.place.Place.{Place}
 use Rattle.smv_tree.specs.Models.{Claim, atom, no, after, always, some_time, both}
 use Rattle.smv_tree.specs.Trees.{Tree}
@@ -12,7 +12,7 @@ use Rattle.smv_token.specs.Marks.{text}
 use Rattle.smv_printing.specs.Printing.{bare, claim_inks, claim_level, claim_part, level_of_claim, mark_of_claim, symbol, left_of, right_of}
 use Rattle.smv_printing.specs.Scannables.{AllScannable, ClaimScannable, Scannables}
 use Rattle.smv_token.specs.Tokens.{Scanned, if_whole, scanned, tokens_of}
-use Rattle.smv_printing.proofs.InkFronts.{Begins, begins, begins_append, part_begins}
+use Rattle.smv_printing.proofs.Openings.{Begins, first_append, opened_begins, opens_in}
 use Rattle.smv_printing.proofs.PartedInks.{Follows, around_parted, bang_stands, before_blank, bracketed, part_parted, parted}
 use Rattle.smv_printing.proofs.ReadInks.{read_back}
 use Rattle.smv_printing.proofs.ScannedTokens.{scanned_scannable}
@@ -30,19 +30,16 @@ claim_part_begins place c end h = by (nat_lt place (claim_level c)) where
 
 claim_begins : (c : Claim) (end : Option ℕ) → ClaimScannable c → Begins (first_byte (claim_inks c) end)
 unfolding ClaimScannable claim_inks text
-claim_begins (atom x) end h = part_begins lead.Atom 10 x end (λ k n. begins x k n h)
-claim_begins (no a) end h = refl
-claim_begins (after a) end h = refl
-claim_begins (always a) end h = refl
-claim_begins (some_time a) end h = refl
+claim_begins (atom x) end h = opened_begins lead.Atom 10 _ end (opens_in x lead.Atom 10 h)
 claim_begins (both o a b) end h =
     let l = left_of (level_of_claim o) in
-    begins_append (claim_part l a (claim_inks a)) _ end (λ n. claim_part_begins l a n (λ m. claim_begins a m h.0))
+    subst Begins (sym (first_append (claim_part l a (claim_inks a)) _ end)) (claim_part_begins l a _ (λ m. claim_begins a m h.0))
+claim_begins c end h = refl
 
 claim_part_parted : (place : ℕ) (c : Claim) (end : Option ℕ) → ((e : Option ℕ) → Follows e → WellParted (claim_inks c) e) → Follows end → WellParted (claim_part place c (claim_inks c)) end
 claim_part_parted place c end h f = by (nat_lt place (claim_level c)) where
   by : (b : Bool) → WellParted (cond b (symbol marks.OpenRound ∷ (claim_inks c ++ symbol marks.CloseRound ∷ [])) (claim_inks c)) end
-  by true = bracketed (claim_inks c) end h
+  by true = bracketed (claim_inks c) end (h (Some 41) refl)
   by false = h end f
 
 claim_parted : (c : Claim) (end : Option ℕ) → ClaimScannable c → Follows end → WellParted (claim_inks c) end

@@ -14,6 +14,7 @@ use Rattle.smv_rules.specs.Expressions.{branch, listed_branches, more_branches, 
 use Rattle.smv_printing.specs.Alike.{nowhere, unplaced, unplaced_arms}
 use Rattle.smv_printing.specs.declared.lead.Lead.TheVariants as lead
 use Rattle.smv_printing.specs.Printing.{Ink, around, bare, blank, branches, symbol}
+use Rattle.smv_printing.specs.Printing as print
 use Rattle.smv_printing.specs.Scannables.{ArmsScannable, SomeArms}
 use Rattle.smv_printing.proofs.PrintedDepth.{depth, depth_arms, depth_some, held_less}
 use Rattle.smv_printing.proofs.Says.{NoDots, Says, Sees, says_blank, says_deeper, says_ends, says_gives, says_goes_on, says_last, says_mark, says_more, says_stops, says_then}
@@ -87,17 +88,17 @@ further_quiet : (bs : Arms) → NoDots (further bs)
 further_quiet no_arms = tt
 further_quiet (arm c v bs) = refl
 
-further_seen : (c v : Tree) (is : List Ink) → Opens lead.Free (bare c lead.Free) → Sees key.further (lexeme.Mark marks.Semicolon) (blank ∷ one_arm c v ++ is) (λ p. p)
+further_seen : (c v : Tree) (is : List Ink) → Opens lead.Free (print.level c) (bare c lead.Free) → Sees key.further (lexeme.Mark marks.Semicolon) (blank ∷ one_arm c v ++ is) (λ p. p)
 unfolding sees same_mark
-further_seen c v is o = record { at = λ p us rest l q. ap (λ b. cond {A = Option Place} b None (Some p)) (begins_not lead.Free (one_arm c v ++ is) us rest (opened is o) l) } where
-  opened : (is : List Ink) → Opens lead.Free (bare c lead.Free) → Opens lead.Free (one_arm c v ++ is)
-  opened is o = subst (Opens lead.Free) (sym (append_assoc (bare c lead.Free) (blank ∷ symbol marks.Colon ∷ blank ∷ bare v lead.Free) is)) (opens_more lead.Free (bare c lead.Free) _ o refl)
+further_seen c v is o = record { at = λ p us rest l q. ap (λ b. cond {A = Option Place} b None (Some p)) (begins_not lead.Free (print.level c) (one_arm c v ++ is) us rest (opened is o) l) } where
+  opened : (is : List Ink) → Opens lead.Free (print.level c) (bare c lead.Free) → Opens lead.Free (print.level c) (one_arm c v ++ is)
+  opened is o = subst (Opens lead.Free (print.level c)) (sym (append_assoc (bare c lead.Free) (blank ∷ symbol marks.Colon ∷ blank ∷ bare v lead.Free) is)) (opens_more lead.Free (print.level c) (bare c lead.Free) _ o refl)
 
 further_again : (n : ℕ) (bs : Arms) → ArmsScannable bs → RespelledArms bs → (ys : Branches) → depth_arms bs ≤ suc n → depth_arms bs ≤ deepest → Says n (more_branches ys) (further bs) (ExtendsArms ys bs)
 unfolding bare unplaced depth Rattle.smv_printing.specs.Scannables.Scannables
 further_again n no_arms s all ys le small = says_stops (λ us. tt) (record { more = []; is = sym (append-nil ys.arms); alike = refl; small = omega arith })
 further_again n (arm c v bs) s all ys le small =
-    says_goes_on (blank ∷ one_arm c v) (λ p. p) (further_seen c v (further bs) (opens c lead.Free s.0 refl)) (OneArm ys c v) (λ p.
+    says_goes_on (blank ∷ one_arm c v) (λ p. p) (further_seen c v (further bs) (opens c lead.Free (print.level c) s.0 (omega arith) refl)) (OneArm ys c v) (λ p.
     says_blank (arm_again n c v all.0 all.1 ys (omega (arith, le)) (omega (arith, small)))) (further_quiet bs) (λ zs h.
     says_more (λ ws e. extended ys zs ws c v bs h e) (further_again n bs s.2 all.2 zs (omega (arith, le)) (omega (arith, small))))
 

@@ -117,7 +117,7 @@ neg_again p a s again k n le small = by_test (is_negation a) where
   operand = spelled lead.Minus 4 a
 
   plain : (q : Place) (us rest : List Token) → Lays operand us rest → begins_dots rest ≡ false → sees key.minus (stands q (lexeme.Mark marks.Minus)) us ≡ Some q
-  plain q us rest l d = ap (λ b. cond {A = Option Place} b None (Some q)) (no_range operand us rest (opens_in a lead.Minus 4 s) l d)
+  plain q us rest l d = ap (λ b. cond {A = Option Place} b None (Some q)) (no_range 4 operand us rest (opens_in a lead.Minus 4 s) l d)
 
   said : (q : Place) → Says n (prefixed q op1.Neg 4) operand (Own (one p op1.Neg a) (suc (depth_in lead.Minus 4 a)))
   said q = says_more (λ y g. record { like = g; bare = λ u. absurd u }) (opened_again (one p op1.Neg a) a lead.Minus 4 n (one q op1.Neg) again (λ y g. ap (one nowhere op1.Neg) g) le small)

@@ -215,15 +215,9 @@ More n r ts us b = Unit {0}
 
 one_more : {n : ℕ} {s : Sort} {r : Rule s} {ts us : List Token} {b : Gift s} → Follows plain n s r ts us b → More n r ts us b
 unfolding More
-one_more (done n s x ts) = tt
-one_more (has n s k f t p ts rest x e h) = tt
-one_more (takes n s k f r t p ts rest x e h) = tt
-one_more (skips n s k f r ts rest x u h) = tt
-one_more (nests n s p r ts rest x h) = tt
-one_more (stays s p r ts rest x h) = tt
-one_more (chains n z s r f ts us rest a x h j) = tt
 one_more (stops n s k f a ts u) = λ d t p vs rest c e see h. let P : List Token → Type 0 = λ us. Follows plain n s (again s k f a) us rest c in subst P (sym e) (goes_on n s k f a t p vs rest rest c c see h (stops n s k f c rest (d rest)))
 one_more (goes_on n s k f a t p ts us rest b x e h j) = λ d t' p' vs rest' c e' see h'. goes_on n s k f a t p ts us rest' b c e h (one_more j d t' p' vs rest' c e' see h')
+one_more h = tt
 
 pub says_joined : {n : ℕ} {s : Sort} {r : Rule s} {k : Key} {f : Gift s → Payload k → Rule s} (w : Lexeme) {is ks : List Ink} (js : List Ink) {G : Gift s → Type 0} (load : Place → Payload k) → ((us : List Token) → Ruled k us) → Sees k w ks load → ((ts rest : List Token) → Lays js ts rest → LaysOne w (λ us. Lays ks us rest) ts) → NoDots js → (H : Gift s → Type 0) → Says n (then s s r (λ a. again s k f a)) is H → ((b : Gift s) (p : Place) → H b → Says n (f b (load p)) ks G) → Says n (then s s r (λ a. again s k f a)) (is ++ js) G
 unfolding More Inverted
