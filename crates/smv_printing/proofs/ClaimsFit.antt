@@ -1,32 +1,142 @@
--- Formulas that are printed no deeper than they are, with parentheses only where a text has them.
-use Rattle.std.proofs.Common.{◌≡◌, ◌≤◌, ◌<◌, ◌||◌, ◌∙◌, ℕ, suc, max, Bool, true, false, cond, nat_lt, List, Option, Some, None, refl, sym, subst, ap, arith}
-use Rattle.std.specs.Prelude.{if◌then◌else◌}
-use Rattle.std.proofs.lemmas.Bool.{lt-ltb, ltb-true}
+-- Formulas that are printed no deeper than they are, with parentheses only where a text has them, which is
+-- where they hold a temporal operator.
+use Rattle.std.proofs.Common.{◌≡◌, ◌||◌, ◌∙◌, ℕ, zero, Bool, true, false, List, ◌∷◌, Option, Some, None, refl, sym, subst, ap, suc, ◌⊎◌, inl, inr, ◌≤◌, ◌<◌, max, cond, nat_lt, arith}
+use Rattle.std.specs.List.{list_any}
 use Rattle.smv_tree.specs.declared.formula.FormOp.{FormOp}
 use Rattle.smv_tree.specs.declared.formula.FormOp.TheVariants as op
 use Rattle.smv_tree.specs.Models.{Claim, atom, no, after, always, some_time, both}
+use Rattle.smv_token.specs.declared.mark.Mark.{Mark}
 use Rattle.smv_token.specs.declared.mark.Mark.TheVariants as marks
 use Rattle.smv_token.specs.declared.token.Token.{Token}
 use Rattle.smv_token.specs.declared.token.Lexeme.{Lexeme}
 use Rattle.smv_token.specs.declared.token.Lexeme.TheVariants as lexeme
+use Rattle.smv_grammar.specs.Formulas.{Role, opens, closes, temporal, plain, group, group_on, holds_temporal, is_temporal, joining_by, joining_of, role, role_of, role_of_mark, start_at, start_by, outermost}
+use Rattle.smv_grammar.specs.IsMark.{is_mark, same_mark}
+use Rattle.smv_rules.specs.Keys.{is_bracket, prefix_of, Payload, sees}
+use Rattle.smv_printing.specs.Alike.{AlikeClaims, claim_unplaced}
+use Rattle.smv_printing.specs.Printing.{level_of_claim, claim_level, left_of, right_of}
+use Rattle.smv_rules.specs.Sorts.{Gift, Sort, Formula, a_formula}
+use Rattle.smv_rules.specs.Rules.{Rule, gives, too_deep, must, may, part, then, again}
+use Rattle.smv_rules.specs.Table.{table}
+use Rattle.smv_rules.specs.Follows.{Ruled, Follows, done, has, takes, skips, nests, stays, chains, stops, goes_on}
+use Rattle.smv_rules.proofs.Inverting.{Chained, Had}
+use Rattle.std.proofs.lemmas.Bool.{lt-ltb, ltb-true}
 use Rattle.smv_grammar.specs.Forms.{deepest}
-use Rattle.smv_grammar.specs.Formulas.{holds_temporal, outermost, start_at}
-use Rattle.smv_rules.specs.Keys.{prefix_of}
-use Rattle.smv_rules.specs.Sorts.{Formula, a_formula}
-use Rattle.smv_rules.specs.Rules.{gives, too_deep}
 use Rattle.smv_rules.specs.Formulas.{deeper}
 use Rattle.smv_rules.specs.Follows as follows
-use Rattle.smv_rules.specs.Follows.{Follows}
 use Rattle.smv_printing.specs.declared.lead.Lead.TheVariants as lead
-use Rattle.smv_printing.specs.Printing.{claim_level, level_of_claim, left_of, right_of}
-use Rattle.smv_printing.specs.Scannables.{AllScannable, ClaimScannable}
-use Rattle.smv_printing.proofs.PrintedDepth.{depth_in}
-use Rattle.smv_printing.proofs.Timed.{timed}
-use Rattle.smv_printing.proofs.ClaimRules.{Inverse, inverse}
+use Rattle.smv_printing.proofs.Scannables.{AllScannable, ClaimScannable}
+use Rattle.smv_printing.proofs.Fits.{depth_in}
+
+abbrev pub is_timed : FormOp → Bool
+is_timed op.Until = true
+is_timed op.Releases = true
+is_timed o = false
+
+abbrev pub timed : Claim → Bool
+timed (atom x) = false
+timed (no a) = timed a
+timed (after a) = true
+timed (always a) = true
+timed (some_time a) = true
+timed (both o a b) = timed a || (is_timed o || timed b)
+
+timed_unplaced : (c : Claim) → timed (claim_unplaced c) ≡ timed c
+unfolding claim_unplaced
+timed_unplaced (atom x) = refl
+timed_unplaced (no a) = timed_unplaced a
+timed_unplaced (after a) = refl
+timed_unplaced (always a) = refl
+timed_unplaced (some_time a) = refl
+timed_unplaced (both o a b) = either (is_timed o) _ _ _ _ (timed_unplaced a) (timed_unplaced b) where
+  either : (c a b d e : Bool) → a ≡ d → b ≡ e → (a || (c || b)) ≡ (d || (c || e))
+  either c a b d e f g = cc
+
+pub timed_alike : (x y : Claim) → AlikeClaims x y → timed y ≡ timed x
+timed_alike x y e = sym (timed_unplaced y) ∙ sym (ap timed e) ∙ timed_unplaced x
+
+abbrev is_round : Role → Bool
+is_round opens = true
+is_round closes = true
+is_round r = false
+
+-- a token that is no round bracket
+pub word_step : (t : Token) (ts : List Token) → is_round (role t) ≡ false → (m : ℕ) → holds_temporal m (t ∷ ts) ≡ (is_temporal (role t) || holds_temporal m ts)
+unfolding holds_temporal group
+word_step t ts e m = by (role t) refl e where
+  by : (r : Role) → role t ≡ r → is_round r ≡ false → holds_temporal m (t ∷ ts) ≡ (is_temporal (role t) || holds_temporal m ts)
+  by opens i e = absurd (cc)
+  by closes i e = absurd (cc)
+  by temporal i e = ap (λ r. list_any (λ t. is_temporal (role t)) (group_on r m t (λ n. group n ts))) i
+  by plain i e = ap (λ r. list_any (λ t. is_temporal (role t)) (group_on r m t (λ n. group n ts))) i
+
+-- what is no such operator is no `!`
+pub no_prefix : (w : Lexeme) (h : Bool) → prefix_of (start_at w h) ≡ None → is_mark marks.Bang w ≡ false
+unfolding same_mark
+no_prefix (lexeme.Mark m) h e = by m e where
+  by : (m : Mark) → prefix_of (start_by m h) ≡ None → is_mark marks.Bang (lexeme.Mark m) ≡ false
+  by marks.Bang e = absurd (cc)
+  by m e = refl
+no_prefix w h e = refl
+
+-- the bracket that opens a formula
+pub bracket_opens : (w : Lexeme) (h : Bool) → is_bracket (start_at w h) ≡ true → (role_of w ≡ opens) × (h ≡ true)
+bracket_opens (lexeme.Mark m) h e = by m h e where
+  by : (m : Mark) (h : Bool) → is_bracket (start_by m h) ≡ true → (role_of_mark m ≡ opens) × (h ≡ true)
+  by marks.OpenRound true e = (refl, refl)
+  by marks.OpenRound false e = absurd (cc)
+  by m h e = absurd (cc)
+bracket_opens w h e = absurd (cc)
+
+-- an operator between two formulas
+abbrev pub Joins : Lexeme → Option (ℕ × FormOp) → Type 0
+Joins w None = (false ≡ false) × (false ≡ false) × (zero ≡ zero)
+Joins w (Some i) = (is_round (role_of w) ≡ false) × (is_temporal (role_of w) ≡ is_timed i.1) × (level_of_claim i.1 ≡ i.0)
+
+join_marks : (m : Mark) → Joins (lexeme.Mark m) (joining_by m)
+join_marks marks.WordU = (refl, refl, refl)
+join_marks m = (refl, refl, refl)
+
+pub joins : (w : Lexeme) (i : ℕ × FormOp) → joining_of w ≡ Some i → Joins w (Some i)
+joins (lexeme.Mark m) i e = subst (Joins (lexeme.Mark m)) e (join_marks m)
+joins w i e = absurd (cc)
+
+unfoldable pub Inverse : (n : ℕ) {s : Sort} → Rule s → List Token → List Token → Gift s → Type 0
+Inverse n (gives s y) ts rest x = (ts ≡ rest) × (y ≡ x)
+Inverse n (too_deep s) ts rest x = ⊥
+Inverse n (must s k f) ts rest x = Had follows.plain n s k f ts rest x
+Inverse n (may s k f r) ts rest x = Had follows.plain n s k f ts rest x ⊎ (Ruled k ts × Follows follows.plain n s r ts rest x)
+Inverse zero (part s p r) ts rest x = Follows follows.plain 0 s r ts rest x
+Inverse (suc n) (part s p r) ts rest x = Follows follows.plain n s (table p) ts rest x
+Inverse n (then z s r f) ts rest x = Chained follows.plain n z s r f ts rest x
+Inverse n (again s k f a) ts rest x = Unit {0}
+
+pub inverse : {n : ℕ} {s : Sort} {r : Rule s} {ts rest : List Token} {x : Gift s} → Follows follows.plain n s r ts rest x → Inverse n r ts rest x
+unfolding Inverse
+inverse (done n s x ts) = (refl, refl)
+inverse (has n s k f t p ts rest x e h) = record { first = t; others = ts; load = p; is = refl; seen = e; follows = h }
+inverse (takes n s k f r t p ts rest x e h) = inl (record { first = t; others = ts; load = p; is = refl; seen = e; follows = h })
+inverse (skips n s k f r ts rest x u h) = inr (u, h)
+inverse (nests n s p r ts rest x h) = h
+inverse (stays s p r ts rest x h) = h
+inverse (chains n z s r f ts us rest a x h j) = record { between = us; given = a; before = h; behind = j }
+inverse (stops n s k f a ts u) = tt
+inverse (goes_on n s k f a t p ts us rest b x e h j) = tt
+
+-- what holds before what comes again, and behind each, holds at its end
+unfoldable pub Kept : (n : ℕ) {s : Sort} → Rule s → List Token → List Token → Gift s → Type 1
+Kept n (again s k f a) ts rest x = (I : Gift s → List Token → Type 0) → ((b : Gift s) (t : Token) (p : Payload k) (us vs : List Token) (c : Gift s) → I b (t ∷ us) → sees k t us ≡ Some p → Follows follows.plain n s (f b p) us vs c → I c vs) → I a ts → I x rest
+Kept n r ts rest x = Unit {1}
+
+pub kept : {n : ℕ} {s : Sort} {r : Rule s} {ts rest : List Token} {x : Gift s} → Follows follows.plain n s r ts rest x → Kept n r ts rest x
+unfolding Kept
+kept (stops n s k f a ts u) = λ I step i. i
+kept (goes_on n s k f a t p ts us rest b x e h j) = λ I step i. kept j I step (step a t p ts us b i e h)
+kept h = tt
 
 -- the depth of a formula in a place: parentheses are one nesting
 abbrev pub placed_depth : ℕ → Claim → ℕ → ℕ
-placed_depth place c d = if nat_lt place (claim_level c) then suc d else d
+placed_depth place c d = cond (nat_lt place (claim_level c)) (suc d) d
 
 unfoldable pub claim_depth : Claim → ℕ
 claim_depth (atom x) = depth_in lead.Atom 10 x

@@ -9,27 +9,24 @@ use Rattle.smv_token.specs.declared.token.Token.{Token}
 use Rattle.smv_grammar.specs.Forms.{deepest}
 use Rattle.smv_grammar.specs.Formulas.{closes, group, group_on, holds_temporal, is_temporal, joining, opens, outermost, role, role_of, start_of}
 use Rattle.smv_grammar.specs.IsMark.{is_mark}
-use Rattle.smv_rules.specs.Keys.{Unseen, begins_with, if_there, is_bracket, sees}
+use Rattle.smv_rules.specs.Keys.{Unseen, begins_with, is_bracket, sees}
 use Rattle.smv_rules.specs.Keys as key
 use Rattle.smv_rules.specs.Sorts.{Expression, Formula, a_formula}
 use Rattle.smv_rules.specs.Rules.{Rule, ◌>>=◌}
 use Rattle.smv_rules.specs.Table.{table}
 use Rattle.smv_rules.specs.Expressions.{mark}
-use Rattle.smv_rules.specs.Formulas.{an_atom, deeper, formula_level, implied, joined, opened, operand, side}
+use Rattle.smv_rules.specs.Formulas.{an_atom, deeper, enclosed, formula_level, implied, joined, opened, operand, side}
 use Rattle.smv_rules.specs.Follows.{Follows, plain}
 use Rattle.smv_rules.proofs.Firsts.{is_mark_true}
 use Rattle.smv_rules.proofs.Inverting.{Had}
 use Rattle.smv_printing.specs.declared.lead.Lead.TheVariants as lead
 use Rattle.smv_printing.specs.Printing.{left_of, right_of}
-use Rattle.smv_printing.specs.Scannables.{AllScannable, ClaimScannable}
+use Rattle.smv_printing.proofs.Scannables.{AllScannable, ClaimScannable}
 use Rattle.smv_printing.proofs.Says.{past}
 use Rattle.smv_printing.proofs.Fits.{Fits}
 use Rattle.smv_printing.proofs.Giving.{Spans, levels_of, stepped, there}
-use Rattle.smv_printing.proofs.GivenParts.{level_gives}
-use Rattle.smv_printing.proofs.Gave.{gave}
-use Rattle.smv_printing.proofs.Timed.{bracket_opens, is_timed, joins, no_prefix, timed, word_step}
-use Rattle.smv_printing.proofs.ClaimRules.{Inverse, Kept, inverse, kept}
-use Rattle.smv_printing.proofs.ClaimsFit.{Bracketed, ClaimFits, ClaimGave, claim_at, claim_depth, claim_looser, deeper_is, joined_fits, prefixes, round_fits, true_is}
+use Rattle.smv_printing.proofs.GivenParts.{level_gives, gave}
+use Rattle.smv_printing.proofs.ClaimsFit.{bracket_opens, is_timed, joins, no_prefix, timed, word_step, Inverse, Kept, inverse, kept, Bracketed, ClaimFits, ClaimGave, claim_at, claim_depth, claim_looser, deeper_is, joined_fits, prefixes, round_fits, true_is}
 
 -- round brackets
 pub open_step : (t : Token) (ts : List Token) → role t ≡ opens → (m : ℕ) → holds_temporal m (t ∷ ts) ≡ holds_temporal (suc m) ts
@@ -99,9 +96,6 @@ prefix_gave n nest ts rest x h a =
     }))
 
 -- brackets around a formula
-abbrev pub enclosed : Rule a_formula
-enclosed = opened outermost >>= (λ a. mark marks.CloseRound >>= (λ q. deeper a.claim a.depth))
-
 pub record Grouped (us rest : List Token) (x : Formula) : Type 0 where
   pub given : Formula
   pub fits : ClaimFits 6 given

@@ -10,16 +10,14 @@ use Rattle.smv_rules.specs.PartTexts.{SpellsExpr, SpellsFormulaText, formula}
 use Rattle.smv_printing.specs.Alike.{Alike, AlikeClaims, Reparsed, ReparsedFormula}
 use Rattle.smv_printing.specs.declared.lead.Lead.TheVariants as lead
 use Rattle.smv_printing.specs.Printing.{bare, claim_inks, claim_printed, printed}
-use Rattle.smv_printing.proofs.Says.{lays}
-use Rattle.smv_printing.proofs.SaysLevels.{loosely}
-use Rattle.smv_printing.proofs.RespelledTrees.{respelled}
+use Rattle.smv_printing.proofs.Says.{lays, loosely}
+use Rattle.smv_printing.proofs.Respelled.{respelled}
 use Rattle.smv_printing.proofs.Fits.{Fits, free_part}
-use Rattle.smv_printing.proofs.GivenParts.{level_gives}
-use Rattle.smv_printing.proofs.Gave.{gave, not_clean}
+use Rattle.smv_printing.proofs.GivenParts.{level_gives, gave, not_clean}
 use Rattle.smv_printing.proofs.ClaimsFit.{claim_depth, placed_most}
 use Rattle.smv_printing.proofs.ClaimsGiven.{claim_gave}
 use Rattle.smv_printing.proofs.ClaimsRespelled.{formula_again as said_again}
-use Rattle.smv_printing.proofs.PrintedTexts.{claim_scanned, printed_scanned, text_scannable}
+use Rattle.smv_printing.proofs.PartedInks.{claim_scanned, printed_scanned, text_scannable}
 
 said_expression : (x : Tree) (y : Expression) → SpellsBy expr (printed x) y → Alike x y.tree → Reparsed x
 said_expression x y s a = record { tree = y.tree; spelled = record { given = y; spelled = s; is = refl }; alike = a }

@@ -1,9 +1,9 @@
--- Following rules along what is printed.
+-- Following rules along what is printed, at each level, in brackets and in its place.
 use denote.Enum.Bare.{true_same}
-use Rattle.std.proofs.Common.{◌≡◌, ◌≤◌, ◌<◌, ℕ, zero, suc, true, false, cond, List, [], ◌∷◌, ◌++◌, Option, Some, None, refl, sym, subst, ap, arith}
-use Rattle.std.proofs.lemmas.Bool.{lt-ltb}
+use Rattle.std.proofs.Common.{◌≡◌, ◌≤◌, ◌<◌, ℕ, zero, suc, true, false, cond, List, [], ◌∷◌, ◌++◌, Option, Some, None, refl, sym, subst, ap, arith, ◌||◌, ◌==◌, Bool, nat_lt, ◌∙◌}
+use Rattle.std.proofs.lemmas.Bool.{eqb-true, lt-ltb, ltb-false, ltb-true}
 use Rattle.smv_tree.specs.declared.place.Place.{Place}
-use Rattle.smv_tree.specs.Trees.{Tree}
+use Rattle.smv_tree.specs.Trees.{Tree, choice, one, two}
 use Rattle.smv_token.specs.contracts.mark.Mark.{the_type}
 use Rattle.smv_token.specs.declared.mark.Mark.{Mark}
 use Rattle.smv_token.specs.declared.mark.Mark.TheVariants as marks
@@ -12,17 +12,25 @@ use Rattle.smv_token.specs.declared.token.Lexeme.{Lexeme}
 use Rattle.smv_token.specs.declared.token.Lexeme.TheVariants as lexeme
 use Rattle.smv_grammar.specs.Forms.{begins_dots, deepest, is_dots}
 use Rattle.smv_grammar.specs.IsMark.{same_mark}
-use Rattle.smv_rules.specs.Keys.{Key, Payload, begins_with, if_there, sees}
+use Rattle.smv_rules.specs.Keys.{Key, Payload, begins_with, if_there, sees, Opener, Primary, opens, round, primary_by, primary_of, with_place}
 use Rattle.smv_rules.specs.Keys as key
-use Rattle.smv_rules.specs.Sorts.{Expression, Gift, Sort, a_count, a_place, an_expression}
+use Rattle.smv_rules.specs.Sorts.{Expression, Gift, Sort, an_expression}
 use Rattle.smv_rules.specs.Rules.{Part, Rule, gives, too_deep, must, may, part, then, again, ◌>>=◌}
 use Rattle.smv_rules.specs.Table.{table}
-use Rattle.smv_rules.specs.Expressions.{deeper, last_semicolon, mark, number}
+use Rattle.smv_rules.specs.Expressions.{deeper, last_semicolon, mark, number, bracketed, chosen, implied, joined, level, level_from, nested, prefixed, primary, primary_from, selected}
 use Rattle.smv_rules.proofs.Inverting.{Inverted, inverted}
-use Rattle.smv_rules.specs.Follows.{plain, Follows, Ruled, done, has, takes, skips, nests, stays, chains, stops, goes_on}
-use Rattle.smv_printing.specs.Alike.{Laid, inked, lexemes}
-use Rattle.smv_printing.specs.Printing.{Ink, blank, numeral, symbol, token}
-use Rattle.smv_printing.specs.Scannables.{AllScannable}
+use Rattle.smv_rules.specs.Follows.{plain, Follows, Ruled, done, has, takes, skips, nests, chains, stops, goes_on}
+use Rattle.smv_printing.specs.Alike.{Alike}
+use Rattle.smv_printing.specs.Printing.{Ink, blank, numeral, symbol, token, bare, misread, spelled}
+use Rattle.smv_printing.proofs.Scannables.{AllScannable}
+use Rattle.smv_tree.specs.declared.expr.Op1.TheVariants as op1
+use Rattle.smv_tree.specs.declared.expr.Op2.{Op2}
+use Rattle.smv_tree.specs.declared.expr.Op2.TheVariants as op2
+use Rattle.smv_printing.specs.declared.lead.Lead.{Lead}
+use Rattle.smv_printing.specs.declared.lead.Lead.TheVariants as lead
+use Rattle.smv_printing.specs.Printing as print
+use Rattle.smv_printing.proofs.Fits.{IsSpan, depth, depth_in, depth_some, held, held_is, held_less, held_near}
+use Rattle.smv_printing.proofs.ReadInks.{Laid, inked, lexemes}
 
 abbrev pub stands : Place → Lexeme → Token
 stands p w = record { place = p; lexeme = w }
@@ -240,3 +248,102 @@ says_goes_on {n} {s} {k} {f} {w} is {js} {G} {a} load e H h d g = record {
       let y = (g x.given x.holds).along c.between rest c.behind q (lays_scannable is l.others c.between c.before (past l.is o)) in
       said_at l.is (record { given = y.given; follows = goes_on n s k f a (stands l.place w) (load l.place) l.others c.between rest x.given y.given (e.at l.place l.others rest l.behind q) x.follows y.follows; holds = y.holds });
 }
+
+-- what holds of each form that a level has
+pub level_by : (P : Rule an_expression → Type 0) (l : ℕ) (tighter : Rule an_expression) → (l ≡ 1 → P (tighter >>= selected)) → (l ≡ 2 → P (may an_expression (key.mark marks.Bang) (λ p. prefixed p op1.Not 2) tighter)) → (l ≡ 4 → P (may an_expression key.minus (λ p. prefixed p op1.Neg 4) tighter)) → (l ≡ 13 → P (tighter >>= chosen)) → (l ≡ 15 → P (tighter >>= implied)) → P (tighter >>= joined l tighter) → P (level_from l tighter)
+level_by P l tighter one_ two_ four_ choice_ implies_ other = by (l == 1) refl (l == 2) refl (l == 4) refl (l == 13) refl (l == 15) refl where
+  by : (a : Bool) → (l == 1) ≡ a → (b : Bool) → (l == 2) ≡ b → (c : Bool) → (l == 4) ≡ c → (d : Bool) → (l == 13) ≡ d → (e : Bool) → (l == 15) ≡ e → P (cond a (tighter >>= selected) (cond b (may an_expression (key.mark marks.Bang) (λ p. prefixed p op1.Not 2) tighter) (cond c (may an_expression key.minus (λ p. prefixed p op1.Neg 4) tighter) (cond d (tighter >>= chosen) (cond e (tighter >>= implied) (tighter >>= joined l tighter))))))
+  by true q b r c s d t e u = one_ (eqb-true l 1 q)
+  by false q true r c s d t e u = two_ (eqb-true l 2 r)
+  by false q false r true s d t e u = four_ (eqb-true l 4 s)
+  by false q false r false s true t e u = choice_ (eqb-true l 13 t)
+  by false q false r false s false t true u = implies_ (eqb-true l 15 u)
+  by false q false r false s false t false u = other
+
+-- what is said at a tighter level is said at each looser one
+pub loosened : {s : Sort} (rule : ℕ → Rule s) (n l m : ℕ) (is : List Ink) (G : Gift s → Type 0) → ((i : ℕ) → l ≤ i → Says n (rule i) is G → Says n (rule (suc i)) is G) → l ≤ m → Says n (rule l) is G → Says n (rule m) is G
+loosened rule n l zero is G up le h = let e : l ≡ 0 = omega (arith, le) in subst (λ i. Says n (rule i) is G) e h
+loosened rule n l (suc m) is G up le h = by_test (λ t. loosened rule n l m is G up t h) (nat_lt m l) refl where
+  by_test : (l ≤ m → Says n (rule m) is G) → (b : Bool) → nat_lt m l ≡ b → Says n (rule (suc m)) is G
+  by_test more true e = let t = ltb-true m l e in let i : l ≡ suc m = omega (arith, le, t) in subst (λ i. Says n (rule i) is G) i h
+  by_test more false e = let t = ltb-false m l e in up m t (more t)
+
+pub at_least : (n l m : ℕ) (is : List Ink) (G : Expression → Type 0) → l ≤ m → Says n (level l) is G → Says n (level m) is G
+unfolding level
+at_least n l m is G = loosened level n l m is G (λ i le h. level_by (λ r. Says n r is G) (suc i) (level i) (λ e. says_ends G h (λ a g. says_stops (λ us. tt) g)) (λ e. says_skips (λ us. tt) h) (λ e. says_skips (λ us. tt) h) (λ e. says_ends G h (λ a g. says_skips (λ us. tt) (says_gives g))) (λ e. says_ends G h (λ a g. says_skips (λ us. tt) (says_gives g))) (says_ends G h (λ a g. says_stops (λ us. tt) g)))
+
+-- an expression alike that is no deeper
+pub record Like (x : Tree) (d : ℕ) (y : Expression) : Type 0 where
+  pub alike : Alike x y.tree
+  pub small : y.depth ≤ d
+
+-- and what is printed of a range is one that stands alone
+pub record Own (x : Tree) (d : ℕ) (y : Expression) : Type 0 where
+  pub like : Like x d y
+  pub bare : IsSpan x → y.bare ≡ true
+
+-- what is printed of a tree is said again, where it may be so deep
+abbrev pub Respelled : Tree → Type 0
+Respelled x = (k : Lead) (n : ℕ) → held x (depth x k) ≤ suc n → depth x k ≤ deepest → Says n (level (print.level x)) (bare x k) (Own x (depth x k))
+
+no_true : false ≡ true → ⊥
+no_true e = absurd (cc)
+
+-- the levels of operators lie between the tightest and the loosest
+pub tree_level : (x : Tree) → print.level x ≤ 15
+tree_level (choice p c a b) = omega arith
+tree_level (one p op1.Not a) = omega arith
+tree_level (one p o a) = omega arith
+tree_level (two p o a b) = by_operator o where
+  by_operator : (o : Op2) → print.level (two p o a b) ≤ 15
+  by_operator op2.Concat = omega arith
+  by_operator o = omega arith
+tree_level x = omega arith
+
+within_brackets : (x : Tree) → Respelled x → (n : ℕ) → held x (depth x lead.Free) ≤ suc n → depth x lead.Free ≤ deepest → Says n (level 15) (bare x lead.Free) (Own x (depth x lead.Free))
+within_brackets x said n le small = at_least n (print.level x) 15 (bare x lead.Free) (Own x (depth x lead.Free)) (tree_level x) (said lead.Free n le small)
+
+pub loosely : (x : Tree) → Respelled x → (n : ℕ) → depth x lead.Free ≤ suc n → depth x lead.Free ≤ deepest → Says n (level 15) (bare x lead.Free) (Like x (depth x lead.Free))
+loosely x said n le small = let h = held_less x lead.Free in says_more (λ y g. g.like) (within_brackets x said n (omega (arith, le, h)) small)
+
+-- primary expressions, by their first token
+pub says_primary : {n : ℕ} (w : Lexeme) (o : Primary) {is : List Ink} {G : Expression → Type 0} → primary_of w ≡ Some o → ((p : Place) → Says n (primary_from o p) is G) → Says n primary (token w ∷ is) G
+unfolding sees
+says_primary w o e h = says_must (λ p. (o, p)) (sees_alone (λ p us. ap (λ (o : Option Primary). with_place o p) e)) h
+
+pub says_opener : {n : ℕ} (w : Lexeme) (o : Opener) (d : ℕ) {is : List Ink} {G : Expression → Type 0} → primary_of w ≡ Some (opens o) → 1 ≤ d → d ≤ n → ((p : Place) (m : ℕ) → d ≤ suc m → Says m (nested o p) is G) → Says n primary (token w ∷ is) G
+unfolding table
+says_opener {n} w o d e some le h = says_primary w (opens o) e (λ p. says_part n d some le (λ m. h p m))
+
+-- brackets
+round_like : (x : Tree) (y : Expression) (n : ℕ) → Own x (depth x lead.Free) y → suc (held x (depth x lead.Free)) ≤ deepest → Says n (bracketed y) [] (Like x (suc (held x (depth x lead.Free))))
+round_like x y n h lt = by_test y.bare refl where
+  small : y.depth ≤ depth x lead.Free
+  small = h.like.small
+
+  by_test : (b : Bool) → y.bare ≡ b → Says n (cond b (gives an_expression (record { tree = y.tree; depth = y.depth; bare = false })) (deeper y.tree y.depth)) [] (Like x (suc (held x (depth x lead.Free))))
+  by_test true e = let g = held_near x lead.Free in says_gives (record { alike = h.like.alike; small = omega (arith, small, g) })
+  by_test false e =
+      let g = held_is x (depth x lead.Free) (λ s. no_true (sym e ∙ h.bare s)) in
+      says_deeper y.tree y.depth (omega (arith, small, g, lt)) (record { alike = h.like.alike; small = omega (arith, small, g) })
+
+in_brackets : (x : Tree) → Respelled x → (n : ℕ) → suc (held x (depth x lead.Free)) ≤ suc n → suc (held x (depth x lead.Free)) ≤ deepest → Says n primary (symbol marks.OpenRound ∷ (bare x lead.Free ++ symbol marks.CloseRound ∷ [])) (Like x (suc (held x (depth x lead.Free))))
+unfolding primary_by
+in_brackets x said n le small =
+    let g = held_near x lead.Free in
+    says_opener (lexeme.Mark marks.OpenRound) round (held x (depth x lead.Free)) refl (depth_some x lead.Free) (omega (arith, le)) (λ p m i.
+    says_then (Own x (depth x lead.Free)) (within_brackets x said m i (omega (arith, small, g))) refl (λ y h.
+    says_mark (λ q. round_like x y m h small)))
+
+neither : (a b : Bool) → (a || b) ≡ false → a ≡ false
+neither true b e = e
+neither false b e = refl
+
+pub in_place : (x : Tree) → Respelled x → (k : Lead) (place n : ℕ) → depth_in k place x ≤ suc n → depth_in k place x ≤ deepest → Says n (level place) (spelled k place x) (Like x (depth_in k place x))
+unfolding level
+in_place x said k place n le small = by_test (nat_lt place (print.level x) || misread k x) refl le small where
+  by_test : (b : Bool) → (nat_lt place (print.level x) || misread k x) ≡ b → cond b (suc (held x (depth x lead.Free))) (depth x k) ≤ suc n → cond b (suc (held x (depth x lead.Free))) (depth x k) ≤ deepest → Says n (level place) (cond b (symbol marks.OpenRound ∷ (bare x lead.Free ++ symbol marks.CloseRound ∷ [])) (bare x k)) (Like x (cond b (suc (held x (depth x lead.Free))) (depth x k)))
+  by_test true e le small = at_least n 0 place _ (Like x (suc (held x (depth x lead.Free)))) (omega arith) (in_brackets x said n le small)
+  by_test false e le small =
+      let h = held_less x k in
+      at_least n (print.level x) place (bare x k) (Like x (depth x k)) (ltb-false place (print.level x) (neither (nat_lt place (print.level x)) (misread k x) e)) (says_more (λ y g. g.like) (said k n (omega (arith, le, h)) small))

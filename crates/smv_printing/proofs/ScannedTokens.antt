@@ -16,7 +16,7 @@ use Rattle.smv_token.specs.declared.token.Token.{Token}
 use Rattle.smv_token.specs.LeftOut.{left_out}
 use Rattle.smv_token.specs.Marks.{symbol_at, word_of}
 use Rattle.smv_token.specs.Numbers.{at_most, is_decimal, is_digit_in, radix_of, value_after, width_of, word_head}
-use Rattle.smv_printing.specs.Scannables.{AllScannable, OwnName, OwnWord, first_is, greatest}
+use Rattle.smv_printing.proofs.Scannables.{AllScannable, OwnName, OwnWord, first_is, greatest}
 use Rattle.smv_token.specs.Tokens.{Scanned, after, begins_name, continues_name, digit_piece, digits_at, goes_on, is_blank, is_in_line, joined, kept_or_left, line_at, number_at, number_within, piece_at, run_kind, scanned, start, symbol_or_none, token_of, tokens_from, with_len, word_at, word_of_width, word_or_number, word_within}
 
 -- what is known of a piece at the front of a text
