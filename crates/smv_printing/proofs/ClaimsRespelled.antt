@@ -18,14 +18,13 @@ use Rattle.smv_rules.specs.Expressions.{level, level_from, primary, primary_from
 use Rattle.smv_rules.specs.Expressions as expressions
 use Rattle.smv_rules.specs.Follows.{Follows, done, takes, skips, chains}
 use Rattle.smv_rules.specs.Follows as follows
-use Rattle.smv_printing.proofs.Scannables.{AllScannable, ClaimScannable, Scannables}
+use Rattle.smv_printing.proofs.ScannedTokens.{AllScannable, ClaimScannable, Scannables}
 use Rattle.smv_printing.proofs.Says.{level_by, loosened, past, Says, said_at, says_blank, says_ends, says_gives, says_joined, says_mark, says_part, says_skips, says_stops, says_takes, says_then, sees_alone, stands, in_place}
 use Rattle.smv_printing.proofs.Fits.{Fits, place_some}
 use Rattle.smv_rules.proofs.Firsts.{is_mark_true}
 use Rattle.smv_printing.proofs.Giving.{Spans, not_first, placed, primary_role, primary_seen, there}
 use Rattle.smv_printing.proofs.GivenParts.{level_gives, gave, not_clean}
-use Rattle.smv_printing.proofs.ClaimsFit.{Inverse, inverse, timed, timed_alike, Bracketed, Timely, claim_depth, placed_depth}
-use Rattle.smv_printing.proofs.ClaimsGiven.{closing, shut, grouped, nested}
+use Rattle.smv_printing.proofs.ClaimsGiven.{Inverse, inverse, timed, timed_alike, Bracketed, Timely, claim_depth, placed_depth, closing, shut, grouped, nested}
 use Rattle.std.proofs.lemmas.Bool.{eqb-true, lt-ltb, ltb-false}
 use Rattle.smv_tree.specs.declared.formula.FormOp.{FormOp}
 use Rattle.smv_tree.specs.declared.formula.FormOp.TheVariants as op

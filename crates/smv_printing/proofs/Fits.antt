@@ -9,7 +9,7 @@ use Rattle.smv_printing.specs.Printing.{level, misread, right_level, left_level}
 use Rattle.std.proofs.lemmas.Bool.{le-ltb, ltb-false, ltb-true}
 use Rattle.smv_grammar.specs.Forms.{deepest}
 use Rattle.smv_rules.specs.Sorts.{Branches, Expression, Operands}
-use Rattle.smv_printing.proofs.Scannables.{ArmsScannable, EachScannable, Scannables, SomeArms, SomeTrees}
+use Rattle.smv_printing.proofs.ScannedTokens.{ArmsScannable, EachScannable, Scannables, SomeArms, SomeTrees}
 
 abbrev pub IsSpan : Tree → Type 0
 IsSpan (span p low high) = Unit {0}
@@ -147,18 +147,16 @@ fits_looser clean l m x le h = record { well = h.well; shallow = λ k c. let f =
 pub fits_any : (clean : Bool) (l : ℕ) (x : Expression) → Fits true l x → Fits clean l x
 fits_any clean l x h = record { well = h.well; shallow = λ k c. h.shallow k (by k); bare = h.bare; within = h.within } where
   by : (k : Lead) → Clean k true
-  by lead.Free = tt
-  by lead.Minus = tt
   by lead.Atom = refl
+  by k = tt
 
 pub free_part : (clean : Bool) (l : ℕ) (x : Expression) → Fits clean l x → depth x.tree lead.Free ≤ x.depth
 free_part clean l x h = let f = h.shallow lead.Free tt in let g = freely x.tree lead.Free l in omega (arith, f, g)
 
 span_depth : (x : Tree) (k : Lead) → IsSpan x → depth_in k 1 x ≤ depth x lead.Free
 unfolding depth
-span_depth (span p low high) lead.Free s = omega arith
 span_depth (span p low high) lead.Minus s = omega arith
-span_depth (span p low high) lead.Atom s = omega arith
+span_depth (span p low high) k s = omega arith
 span_depth x k s = absurd s
 
 -- brackets add nothing to a range that stands alone

@@ -16,7 +16,7 @@ use Rattle.smv_rules.specs.Sorts.{Expression, Operands, Branches, Sort, an_expre
 use Rattle.smv_rules.specs.Rules.{Part, gives, too_deep, may, expression, formula, inside, bits, ◌>>=◌, Rule}
 use Rattle.smv_rules.specs.Table.{table}
 use Rattle.smv_rules.specs.Expressions.{an_int, applied, branch, chosen, constant, counted, deeper, enclosed, implied, joined, level, level_from, listed, listed_branches, mark, more_branches, nested, number as a_number, no_branches, operands, prefixed, primary, primary_from, range_from, selected, selecting, widened}
-use Rattle.smv_printing.proofs.Scannables.{ArmsScannable, OwnName, OwnNames, OwnPath, Scannable, Scannables, Signed, greatest, AllScannable}
+use Rattle.smv_printing.proofs.ScannedTokens.{ArmsScannable, OwnName, OwnNames, OwnPath, Scannable, Scannables, Signed, greatest, AllScannable}
 use Rattle.smv_printing.specs.Printing.{left_level, mark_of_two, operator_level, path_head, right_level}
 use Rattle.smv_printing.specs.Printing as print
 use Rattle.smv_printing.specs.declared.lead.Lead.{Lead}
@@ -63,9 +63,8 @@ span_fits : (c : Bool) (p : Place) (low high : ℤ) → Signed low → Signed hi
 unfolding depth Scannables
 span_fits c p low high s t = record { well = (s, t); shallow = λ k g. by k; bare = λ e. tt; within = omega arith } where
   by : (k : Lead) → depth_in k 1 (span p low high) ≤ 2
-  by lead.Free = omega arith
   by lead.Minus = omega arith
-  by lead.Atom = omega arith
+  by k = omega arith
 
 range_gives : (c a : Bool) (i : ℕ) (p : Place) (minus : Bool) (n : ℕ) (P : ℕ → Expression → Type 0) → ((x : Expression) → Fits c 1 x → P i x) → Gives a i (range_from p minus n) P
 unfolding Gives
@@ -115,18 +114,11 @@ selected_gives : (c : Bool) (i : ℕ) (P : ℕ → Expression → Type 0) → ((
 unfolding Gives
 selected_gives c i P h = primary_gives c i _ (λ a f. (c, f, h, (λ b p g s. ((λ x k. (refl, k c g)), tt))))
 
-choice_fits : (x : Bool) (p : Place) (c a b : Expression) → Fits x 12 c → Fits false 15 a → Fits false 13 b → max c.depth (max a.depth b.depth) < deepest → Fits x 13 (record { tree = choice p c.tree a.tree b.tree; depth = suc (max c.depth (max a.depth b.depth)); bare = false })
-unfolding Scannables depth
-choice_fits x p c a b f g h w =
-    let i = free_part false 15 a g in
-    let j = h.shallow lead.Free tt in
-    fits_plain x 13 (choice p c.tree a.tree b.tree) (suc (max c.depth (max a.depth b.depth))) (f.well, g.well, h.well) (omega arith) refl (λ k z. let q = f.shallow k z in omega (arith, i, j, q)) w
-
 chosen_gives : (l : ℕ) → floor l ≡ 12 → Good l → (c : Bool) (i : ℕ) (P : ℕ → Expression → Type 0) → ((x : Expression) → Fits c 13 x → P i x) → Gives c i (level l >>= chosen) P
-unfolding Gives
+unfolding Gives Scannables depth
 chosen_gives l e good c i P h = good c i _ (λ a f.
     let F : Fits c 12 a = subst (λ m. Fits c m a) e f in
-    ((λ p s. ((λ x g. λ q t. ((λ y k. deeper_gives i (choice p a.tree x.tree y.tree) (max a.depth (max x.depth y.depth)) P (λ w. h _ (choice_fits c p a x y F g k w))), (λ t. tt))), (λ t. tt))), h a (fits_looser c 12 13 a (omega arith) F)))
+    ((λ p s. ((λ x g. λ q t. ((λ y k. deeper_gives i (choice p a.tree x.tree y.tree) (max a.depth (max x.depth y.depth)) P (λ w. let m = free_part false 15 x g in let n = k.shallow lead.Free tt in h _ (fits_plain c 13 (choice p a.tree x.tree y.tree) (suc (max a.depth (max x.depth y.depth))) (F.well, g.well, k.well) (omega arith) refl (λ z e. let q = F.shallow z e in omega (arith, m, n, q)) w))), (λ t. tt))), (λ t. tt))), h a (fits_looser c 12 13 a (omega arith) F)))
 
 implied_gives : (l : ℕ) → floor l ≡ 14 → Good l → (c : Bool) (i : ℕ) (P : ℕ → Expression → Type 0) → ((x : Expression) → Fits c 15 x → P i x) → Gives c i (level l >>= implied) P
 unfolding Gives
@@ -151,13 +143,9 @@ unfolding Gives
 not_gives l e good true i P h = ((λ p s. absurd s), good true i P (λ x f. h x (fits_looser true (floor l) 2 x (omega (arith, e)) f)))
 not_gives l e good false i P h = ((λ p s. ((λ x f. deeper_gives i (one p op1.Not x.tree) x.depth P (λ w. h _ (not_fits p x f w))), tt)), good false i P (λ x f. h x (fits_looser false (floor l) 2 x (omega (arith, e)) f)))
 
-neg_fits : (c : Bool) (p : Place) (a : Expression) → Fits false 4 a → a.depth < deepest → Fits c 4 (record { tree = one p op1.Neg a.tree; depth = suc a.depth; bare = false })
-unfolding Scannables depth
-neg_fits c p a f w = let h = f.shallow lead.Minus tt in fits_plain c 4 (one p op1.Neg a.tree) (suc a.depth) f.well (omega arith) refl (λ k e. omega (arith, h)) w
-
 neg_gives : (l : ℕ) → floor l ≡ 3 → Good l → (c : Bool) (i : ℕ) (P : ℕ → Expression → Type 0) → ((x : Expression) → Fits c 4 x → P i x) → Gives c i (may an_expression key.minus (λ p. prefixed p op1.Neg 4) (level l)) P
-unfolding Gives
-neg_gives l e good c i P h = ((λ p s. ((λ x f. deeper_gives i (one p op1.Neg x.tree) x.depth P (λ w. h _ (neg_fits c p x f w))), tt)), good c i P (λ x f. h x (fits_looser c (floor l) 4 x (omega (arith, e)) f)))
+unfolding Gives Scannables depth
+neg_gives l e good c i P h = ((λ p s. ((λ x f. deeper_gives i (one p op1.Neg x.tree) x.depth P (λ w. let d = f.shallow lead.Minus tt in h _ (fits_plain c 4 (one p op1.Neg x.tree) (suc x.depth) f.well (omega arith) refl (λ k e. omega (arith, d)) w))), tt)), good c i P (λ x f. h x (fits_looser c (floor l) 4 x (omega (arith, e)) f)))
 
 -- each level
 level_from_gives : (l : ℕ) → 1 ≤ l → floor l ≡ l → Good l → (c : Bool) (i : ℕ) (P : ℕ → Expression → Type 0) → ((x : Expression) → Fits c (suc l) x → P i x) → Gives c i (level_from (suc l) (level l)) P

@@ -24,7 +24,7 @@ use Rattle.smv_rules.specs.Sorts.{Gift, Sort, an_expression, some_branches, some
 use Rattle.smv_rules.specs.Rules.{Part, Rule, gives, too_deep, must, may, part, then, again, expression, formula, inside, bits}
 use Rattle.smv_rules.proofs.Firsts.{is_mark_true}
 use Rattle.smv_printing.specs.Printing.{mark_of_two, path_head, right_level, left_level, operator_level}
-use Rattle.smv_printing.proofs.Scannables.{OwnName, OwnPath, OwnWord, Scannable, greatest}
+use Rattle.smv_printing.proofs.ScannedTokens.{OwnName, OwnPath, OwnWord, Scannable, greatest}
 use Rattle.smv_printing.proofs.Fits.{AllFit, ArmsFit, Fits}
 
 -- what a token tells where it is seen, and the text begins with no `!` where the flag says so

@@ -1,4 +1,3 @@
-pub mod Scannables
 pub mod ReadInks
 pub mod ScannedTokens
 pub mod Says
@@ -8,7 +7,6 @@ pub mod Respelled
 pub mod Fits
 pub mod Giving
 pub mod GivenParts
-pub mod ClaimsFit
 pub mod ClaimsGiven
 pub mod ClaimsRespelled
 pub mod Reparsed

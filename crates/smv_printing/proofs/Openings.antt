@@ -22,7 +22,7 @@ use Rattle.smv_rules.specs.Keys.{begins_with, is_operand, primary_by}
 use Rattle.smv_printing.specs.declared.lead.Lead.{Lead}
 use Rattle.smv_printing.specs.declared.lead.Lead.TheVariants as lead
 use Rattle.smv_printing.specs.Printing.{Ink, bare, blank, dotted, integer, is_negation, left_level, level, lexeme_text, mark_of_two, misread, path_head, spelled, symbol, to_right, token, word_head, word_text}
-use Rattle.smv_printing.proofs.Scannables.{Scannable, Scannables, Signed, first_is, greatest}
+use Rattle.smv_printing.proofs.ScannedTokens.{Scannable, Scannables, Signed, first_is, greatest}
 use Rattle.smv_printing.proofs.ReadInks.{apart, decimal_writes, first_byte, first_of}
 use Rattle.smv_printing.proofs.Says.{Lays, NoDots, lays_quiet, stands}
 

@@ -10,7 +10,7 @@ use Rattle.smv_token.specs.declared.mark.Mark.TheVariants as marks
 use Rattle.smv_token.specs.declared.token.Lexeme.TheVariants as lexeme
 use Rattle.smv_token.specs.Marks.{text}
 use Rattle.smv_printing.specs.Printing.{Ink, after_comma, around, bare, blank, branches, call, dotted, gap, integer, is_negation, level, listed, mark_of_one, mark_of_two, misread, part, path, path_head, right_level, symbol, token, width, left_level, claim_inks, claim_level, claim_part, level_of_claim, mark_of_claim, left_of, right_of}
-use Rattle.smv_printing.proofs.Scannables.{ArmsScannable, EachScannable, OwnNames, OwnPath, Scannable, Scannables, Signed, first_is, greatest, widest, AllScannable, ClaimScannable}
+use Rattle.smv_printing.proofs.ScannedTokens.{ArmsScannable, EachScannable, OwnNames, OwnPath, Scannable, Scannables, Signed, first_is, greatest, widest, AllScannable, ClaimScannable, scanned_scannable}
 use Rattle.smv_token.specs.Tokens.{begins_name, continues_name, Scanned, if_whole, scanned, tokens_of}
 use Rattle.smv_printing.proofs.Openings.{Begins, NoMinus, begins_part, first_append, no_minus, number_begins, opened_begins, opens_in, opens_tighter}
 use Rattle.smv_printing.proofs.ReadInks.{apart, read_back, Stands, Stops, WellParted, first_byte, first_of, runs_on, ReadBack}
@@ -18,7 +18,6 @@ use Rattle.smv_tree.specs.declared.place.Place.{Place}
 use Rattle.smv_tree.specs.Models.{Claim, atom, no, after, always, some_time, both}
 use Rattle.smv_token.specs.declared.token.Flaw.{Flaw}
 use Rattle.smv_token.specs.declared.token.Token.{Token}
-use Rattle.smv_printing.proofs.ScannedTokens.{scanned_scannable}
 
 -- what may follow an expression: no byte that goes on with a name or a number
 abbrev pub Follows : Option ℕ → Type 0

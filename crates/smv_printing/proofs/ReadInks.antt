@@ -9,7 +9,7 @@ use Rattle.smv_token.specs.declared.token.Lexeme.TheVariants as lexeme
 use Rattle.smv_token.specs.declared.token.Piece.TheVariants as piece
 use Rattle.smv_token.specs.LeftOut as left_out
 use Rattle.smv_token.specs.Marks.{symbol_at, symbols, text, word_of, words}
-use Rattle.smv_printing.proofs.Scannables.{OwnName, first_is, OwnWord, greatest, Scannable}
+use Rattle.smv_printing.proofs.ScannedTokens.{OwnName, first_is, OwnWord, greatest, Scannable}
 use Rattle.smv_token.specs.Tokens.{begins_name, continues_name, piece_at, run_kind, with_len, digit_piece, digits_at, goes_on, number_at, word_at, word_of_width, after, if_whole, start, token_of, tokens_from, with_front, tokens_of}
 use Rattle.std.specs.Char.{digit_value}
 use Rattle.std.specs.Str.Parse.{AllDigits, digits_value_after}

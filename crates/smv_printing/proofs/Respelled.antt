@@ -24,7 +24,7 @@ use Rattle.smv_printing.specs.declared.lead.Lead.{Lead}
 use Rattle.smv_printing.specs.declared.lead.Lead.TheVariants as lead
 use Rattle.smv_printing.specs.Printing.{Ink, around, bare, blank, call, dotted, mark_of_two, numeral, path, spelled, symbol, token, width, branches, after_comma, is_negation, listed}
 use Rattle.smv_printing.specs.Printing as print
-use Rattle.smv_printing.proofs.Scannables.{Signed, ArmsScannable, SomeArms, EachScannable, Scannables, SomeTrees, widest}
+use Rattle.smv_printing.proofs.ScannedTokens.{Signed, ArmsScannable, SomeArms, EachScannable, Scannables, SomeTrees, widest}
 use Rattle.smv_printing.proofs.Fits.{IsSpan, depth, depth_in, depth_some, held_less, place_some, depth_arms, depth_all}
 use Rattle.smv_printing.proofs.Says.{NoDots, Says, says_blank, says_deeper, says_ends, says_gives, says_goes_on, says_joined, says_mark, says_more, says_must, says_number, says_part, says_skips, says_stops, says_takes, says_then, sees_alone, sees_mark, stands, Like, Own, Respelled, at_least, in_place, loosely, says_opener, says_primary, Sees, says_last, Lays}
 use Rattle.smv_grammar.specs.IsMark.{same_mark}
@@ -267,7 +267,7 @@ further_seen c v is o = record { at = λ p us rest l q. ap (λ b. cond {A = Opti
   opened is o = subst (Opens lead.Free (print.level c)) (sym (append_assoc (bare c lead.Free) (blank ∷ symbol marks.Colon ∷ blank ∷ bare v lead.Free) is)) (opens_more lead.Free (print.level c) (bare c lead.Free) _ o refl)
 
 further_again : (n : ℕ) (bs : Arms) → ArmsScannable bs → RespelledArms bs → (ys : Branches) → depth_arms bs ≤ suc n → depth_arms bs ≤ deepest → Says n (more_branches ys) (further bs) (ExtendsArms ys bs)
-unfolding bare unplaced depth Rattle.smv_printing.proofs.Scannables.Scannables
+unfolding bare unplaced depth Scannables
 further_again n no_arms s all ys le small = says_stops (λ us. tt) (record { more = []; is = sym (append-nil ys.arms); alike = refl; small = omega arith })
 further_again n (arm c v bs) s all ys le small =
     says_goes_on (blank ∷ one_arm c v) (λ p. p) (further_seen c v (further bs) (opens c lead.Free (print.level c) s.0 (omega arith) refl)) (OneArm ys c v) (λ p.
@@ -283,7 +283,7 @@ further_more no_arms = refl
 further_more (arm c v bs) = refl
 
 pub cases_again : (p : Place) (bs : Arms) → SomeArms bs → ArmsScannable bs → RespelledArms bs → Respelled (cases p bs)
-unfolding bare unplaced depth primary_by Rattle.smv_printing.proofs.Scannables.Scannables
+unfolding bare unplaced depth primary_by Scannables
 cases_again p no_arms some s all k n le small = absurd some
 cases_again p (arm c v bs) some s all k n le small =
     primary_own (cases p (arm c v bs)) (suc d) n _ (λ s. s) (says_opener (lexeme.Mark marks.Case) key.branches d refl (arms_some c v bs) (omega (arith, le)) (λ q m i.

@@ -1,6 +1,6 @@
 -- Following rules along what is printed, at each level, in brackets and in its place.
 use denote.Enum.Bare.{true_same}
-use Rattle.std.proofs.Common.{◌≡◌, ◌≤◌, ◌<◌, ℕ, zero, suc, true, false, cond, List, [], ◌∷◌, ◌++◌, Option, Some, None, refl, sym, subst, ap, arith, ◌||◌, ◌==◌, Bool, nat_lt, ◌∙◌}
+use Rattle.std.proofs.Common.{◌≡◌, ◌≤◌, ◌<◌, ℕ, zero, suc, true, false, cond, List, [], ◌∷◌, ◌++◌, Option, Some, None, refl, sym, subst, ap, arith, ◌||◌, ◌==◌, Bool, nat_lt, ◌∙◌, append-nil}
 use Rattle.std.proofs.lemmas.Bool.{eqb-true, lt-ltb, ltb-false, ltb-true}
 use Rattle.smv_tree.specs.declared.place.Place.{Place}
 use Rattle.smv_tree.specs.Trees.{Tree, choice, one, two}
@@ -22,7 +22,7 @@ use Rattle.smv_rules.proofs.Inverting.{Inverted, inverted}
 use Rattle.smv_rules.specs.Follows.{plain, Follows, Ruled, done, has, takes, skips, nests, chains, stops, goes_on}
 use Rattle.smv_printing.specs.Alike.{Alike}
 use Rattle.smv_printing.specs.Printing.{Ink, blank, numeral, symbol, token, bare, misread, spelled}
-use Rattle.smv_printing.proofs.Scannables.{AllScannable}
+use Rattle.smv_printing.proofs.ScannedTokens.{AllScannable}
 use Rattle.smv_tree.specs.declared.expr.Op1.TheVariants as op1
 use Rattle.smv_tree.specs.declared.expr.Op2.{Op2}
 use Rattle.smv_tree.specs.declared.expr.Op2.TheVariants as op2
@@ -158,12 +158,7 @@ says_then {n} {z} {s} {r} {f} {is} {js} {G} H h d g = record {
 
 -- what is said once more with nothing printed behind it
 pub says_ends : {n : ℕ} {z s : Sort} {r : Rule z} {f : Gift z → Rule s} {is : List Ink} {G : Gift s → Type 0} (H : Gift z → Type 0) → Says n r is H → ((a : Gift z) → H a → Says n (f a) [] G) → Says n (then z s r f) is G
-says_ends {n} {z} {s} {r} {f} {is} {G} H h g = record {
-  along = λ ts rest l q a.
-      let x = h.along ts rest l q a in
-      let y = (g x.given x.holds).along rest rest refl q (lays_scannable is ts rest l a) in
-      record { given = y.given; follows = chains n z s r f ts rest rest x.given y.given x.follows y.follows; holds = y.holds };
-}
+says_ends {n} {z} {s} {r} {f} {is} {G} H h g = subst (λ is. Says n (then z s r f) is G) (append-nil is) (says_then {js = []} H h tt g)
 
 pub says_stops : {n : ℕ} {s : Sort} {k : Key} {f : Gift s → Payload k → Rule s} {a : Gift s} {G : Gift s → Type 0} → ((us : List Token) → Ruled k us) → G a → Says n (again s k f a) [] G
 says_stops {n} {s} {k} {f} {a} {G} u g = record { along = λ ts rest l q o. said_at l (record { given = a; follows = stops n s k f a rest (u rest); holds = g }) }
@@ -205,12 +200,9 @@ unfolding sees
 says_number {v = v} h = says_token {k = key.number} (λ n. n) (λ p. v) (sees_alone (λ p us. refl)) (λ p. h)
 
 -- a part is nested once more, where one nesting more may be opened
-says_nests : {n : ℕ} {s : Sort} {p : Part s} {r : Rule s} {is : List Ink} {G : Gift s → Type 0} → Says n (table p) is G → Says (suc n) (part s p r) is G
-says_nests {n} {s} {p} {r} h = record { along = λ ts rest l q a. let y = h.along ts rest l q a in record { given = y.given; follows = nests n s p r ts rest y.given y.follows; holds = y.holds } }
-
 pub says_part : (n d : ℕ) {s : Sort} {p : Part s} {r : Rule s} {is : List Ink} {G : Gift s → Type 0} → 1 ≤ d → d ≤ n → ((m : ℕ) → d ≤ suc m → Says m (table p) is G) → Says n (part s p r) is G
 says_part zero d some le h = absurd (omega (arith, some, le))
-says_part (suc n) d some le h = says_nests (h n le)
+says_part (suc n) d {s} {p} {r} some le h = record { along = λ ts rest l q a. let y = (h n le).along ts rest l q a in record { given = y.given; follows = nests n s p r ts rest y.given y.follows; holds = y.holds } }
 
 -- one deeper, which is not too deep
 pub says_deeper : {n : ℕ} (x : Tree) (d : ℕ) {G : Expression → Type 0} → d < deepest → G (record { tree = x; depth = suc d; bare = false }) → Says n (deeper x d) [] G
