@@ -29,7 +29,6 @@ use Rattle.smv_printing.proofs.ScannedTokens.{AllScannable, ClaimScannable}
 use Rattle.smv_printing.proofs.Fits.{depth_in, Fits}
 use Rattle.smv_tree.specs.declared.place.Place.{Place}
 use Rattle.smv_rules.specs.Keys as key
-use Rattle.smv_rules.specs.Expressions.{mark}
 use Rattle.smv_rules.proofs.Firsts.{is_mark_true}
 use Rattle.smv_printing.proofs.Says.{past}
 use Rattle.smv_printing.proofs.Giving.{Spans, levels_of, stepped, there}

@@ -77,11 +77,14 @@ depth_some (one p op1.Neg a) k = omega arith
 depth_some (one p o a) k = omega arith
 depth_some x k = omega arith
 
+pub free_some : (x : Tree) (k : Lead) → 1 ≤ depth x k
+free_some x k = let h = depth_some x k in let g = held_less x k in omega (arith, h, g)
+
 pub place_some : (x : Tree) (k : Lead) (l : ℕ) → 1 ≤ depth_in k l x
 place_some x k l = by_test (nat_lt l (level x) || misread k x) where
   by_test : (b : Bool) → 1 ≤ cond b (suc (held x (depth x lead.Free))) (depth x k)
   by_test true = omega arith
-  by_test false = let h = depth_some x k in let g = held_less x k in omega (arith, h, g)
+  by_test false = free_some x k
 
 -- what begins an atom begins with no `!`
 abbrev pub Clean : Lead → Bool → Type 0

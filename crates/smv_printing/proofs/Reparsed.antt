@@ -7,7 +7,7 @@ use Rattle.smv_rules.specs.Expressions.{expr}
 use Rattle.smv_rules.specs.Sorts.{Expression, Formula}
 use Rattle.smv_rules.specs.Texts.{SpellsBy}
 use Rattle.smv_rules.specs.PartTexts.{SpellsExpr, SpellsFormulaText, formula}
-use Rattle.smv_printing.specs.Alike.{Alike, AlikeClaims, Reparsed, ReparsedFormula}
+use Rattle.smv_printing.specs.Alike.{Reparsed, ReparsedFormula}
 use Rattle.smv_printing.specs.declared.lead.Lead.TheVariants as lead
 use Rattle.smv_printing.specs.Printing.{bare, claim_inks, claim_printed, printed}
 use Rattle.smv_printing.proofs.Says.{lays, loosely}

@@ -18,14 +18,14 @@ use Rattle.smv_rules.specs.Keys as key
 use Rattle.smv_rules.specs.Sorts.{an_expression, Branches, Expression, Operands}
 use Rattle.smv_rules.specs.Rules.{Rule, gives, ◌>>=◌}
 use Rattle.smv_rules.specs.Table.{table}
-use Rattle.smv_rules.specs.Expressions.{an_int, applied, constant, deeper, joined, level, mark, more_names, number as a_number, primary, range_from, widened, branch, listed_branches, more_branches, no_branches, more_operands, one_more, operands, prefixed}
+use Rattle.smv_rules.specs.Expressions.{an_int, applied, branch, deeper, joined, level, listed_branches, mark, more_branches, more_names, more_operands, nested, no_branches, number as a_number, one_more, operands, prefixed, primary, range_from}
 use Rattle.smv_printing.specs.Alike.{Alike, nowhere, unplaced, unplaced_arms, unplaced_all}
 use Rattle.smv_printing.specs.declared.lead.Lead.{Lead}
 use Rattle.smv_printing.specs.declared.lead.Lead.TheVariants as lead
 use Rattle.smv_printing.specs.Printing.{Ink, around, bare, blank, call, dotted, mark_of_two, numeral, path, spelled, symbol, token, width, branches, after_comma, is_negation, listed}
 use Rattle.smv_printing.specs.Printing as print
 use Rattle.smv_printing.proofs.ScannedTokens.{Signed, ArmsScannable, SomeArms, EachScannable, Scannables, SomeTrees, widest}
-use Rattle.smv_printing.proofs.Fits.{IsSpan, depth, depth_in, depth_some, held_less, place_some, depth_arms, depth_all}
+use Rattle.smv_printing.proofs.Fits.{IsSpan, depth, depth_in, free_some, place_some, depth_arms, depth_all}
 use Rattle.smv_printing.proofs.Says.{NoDots, Says, says_blank, says_deeper, says_ends, says_gives, says_goes_on, says_joined, says_mark, says_more, says_must, says_number, says_part, says_skips, says_stops, says_takes, says_then, sees_alone, sees_mark, stands, Like, Own, Respelled, at_least, in_place, loosely, says_opener, says_primary, Sees, says_last, Lays}
 use Rattle.smv_grammar.specs.IsMark.{same_mark}
 use Rattle.smv_printing.proofs.Openings.{Opens, begins_not, opens, opens_more, no_range, opens_in}
@@ -35,6 +35,10 @@ use Rattle.smv_tree.specs.declared.expr.Op1.TheVariants as op1
 pub primary_own : (x : Tree) (d n : ℕ) (is : List Ink) → (IsSpan x → ⊥) → Says n primary is (Like x d) → Says n (level 1) is (Own x d)
 unfolding level
 primary_own x d n is s h = says_more (λ y g. record { like = g; bare = λ i. absurd (s i) }) (at_least n 0 1 is (Like x d) (omega arith) h)
+
+-- what a token opens
+opened_own : (x : Tree) (m : Mark) (o : Opener) (d n : ℕ) (is : List Ink) → (IsSpan x → ⊥) → primary_by m ≡ Some (key.opens o) → 1 ≤ d → suc d ≤ suc n → ((p : Place) (i : ℕ) → d ≤ suc i → Says i (nested o p) is (Like x (suc d))) → Says n (level 1) (symbol m ∷ is) (Own x (suc d))
+opened_own x m o d n is s e some le h = primary_own x (suc d) n (symbol m ∷ is) s (says_opener (lexeme.Mark m) o d e some (omega (arith, le)) h)
 
 -- names after dots
 no_dots : (ns : List (List ℕ)) → NoDots (dotted ns)
@@ -83,17 +87,12 @@ span_again p n low high s t = at_least n 0 1 (print.integer low ++ (symbol marks
   by_low (negsuc i) s e = says_primary (lexeme.Mark marks.Minus) key.below refl (λ q. says_number (says_mark (λ r. upper q true (suc i) (ap (λ n. neg_ℤ (pos n)) (min-eq_left s) ∙ e))))
 
 -- a function and its operand
-pub applied_again : (x a : Tree) (f : Tree → Tree) (n : ℕ) → Respelled a → ((y : Tree) → Alike a y → Alike x (f y)) → depth a lead.Free ≤ suc n → depth a lead.Free < deepest → Says n (applied f) (symbol marks.OpenRound ∷ (bare a lead.Free ++ symbol marks.CloseRound ∷ [])) (Like x (suc (depth a lead.Free)))
-applied_again x a f n again g le lt =
-    says_mark (λ p. says_then (Like a (depth a lead.Free)) (loosely a again n le (omega (arith, lt))) refl (λ y h.
-    says_mark (λ q. let s = h.small in says_deeper (f y.tree) y.depth (omega (arith, lt, s)) (record { alike = g y.tree h.alike; small = omega (arith, s) }))))
-
-pub function_again : (x a : Tree) (m : Mark) (o : Opener) (f : Place → Tree → Tree) (n : ℕ) → Respelled a → (IsSpan x → ⊥) → primary_by m ≡ Some (key.opens o) → ((p : Place) → Rattle.smv_rules.specs.Expressions.nested o p ≡ applied (f p)) → ((p : Place) (y : Tree) → Alike a y → Alike x (f p y)) → suc (depth a lead.Free) ≤ suc n → depth a lead.Free < deepest → Says n (level 1) (call m (bare a lead.Free)) (Own x (suc (depth a lead.Free)))
+function_again : (x a : Tree) (m : Mark) (o : Opener) (f : Place → Tree → Tree) (n : ℕ) → Respelled a → (IsSpan x → ⊥) → primary_by m ≡ Some (key.opens o) → ((p : Place) → nested o p ≡ applied (f p)) → ((p : Place) (y : Tree) → Alike a y → Alike x (f p y)) → suc (depth a lead.Free) ≤ suc n → depth a lead.Free < deepest → Says n (level 1) (call m (bare a lead.Free)) (Own x (suc (depth a lead.Free)))
 function_again x a m o f n again s e r g le lt =
-    let some = depth_some a lead.Free in
-    let less = held_less a lead.Free in
-    primary_own x (suc (depth a lead.Free)) n (call m (bare a lead.Free)) s (says_opener (lexeme.Mark m) o (depth a lead.Free) e (omega (arith, some, less)) (omega (arith, le)) (λ p i j.
-    subst (λ r. Says i r (symbol marks.OpenRound ∷ (bare a lead.Free ++ symbol marks.CloseRound ∷ [])) (Like x (suc (depth a lead.Free)))) (sym (r p)) (applied_again x a (f p) i again (g p) j lt)))
+    opened_own x m o (depth a lead.Free) n (symbol marks.OpenRound ∷ (bare a lead.Free ++ symbol marks.CloseRound ∷ [])) s e (free_some a lead.Free) le (λ p i j.
+    subst (λ r. Says i r (symbol marks.OpenRound ∷ (bare a lead.Free ++ symbol marks.CloseRound ∷ [])) (Like x (suc (depth a lead.Free)))) (sym (r p)) (
+    says_mark (λ t. says_then (Like a (depth a lead.Free)) (loosely a again i j (omega (arith, lt))) refl (λ y h.
+    says_mark (λ q. let s = h.small in says_deeper (f p y.tree) y.depth (omega (arith, lt, s)) (record { alike = g p y.tree h.alike; small = omega (arith, s) }))))))
 
 -- a width behind an operand or a number, and the end of both
 width_again : (x : Tree) (n w d e : ℕ) (f : ℕ → Tree) → capped w ≡ w → Alike x (f w) → d < deepest → suc d ≤ e → Says n (mark marks.Comma >>= (λ r. a_number >>= (λ v. mark marks.CloseRound >>= (λ t. deeper (f (capped v)) d)))) (width w) (Like x e)
@@ -101,18 +100,20 @@ width_again x n w d e f c g lt le =
     says_mark (λ r. says_blank (says_number (
     says_mark (λ t. says_deeper (f (capped w)) d lt (record { alike = subst (λ v. Alike x (f v)) (sym c) g; small = le })))))
 
-pub widen_again : (p q : Place) (resize : Bool) (a : Tree) (n w : ℕ) → Respelled a → capped w ≡ w → depth a lead.Free ≤ suc n → depth a lead.Free < deepest → Says n (widened q resize) (symbol marks.OpenRound ∷ (bare a lead.Free ++ width w)) (Like (widen p resize a w) (suc (depth a lead.Free)))
+widen_again : (p : Place) (resize : Bool) (a : Tree) (w n : ℕ) (m : Mark) → primary_by m ≡ Some (key.opens (key.widen resize)) → Respelled a → w ≤ widest → suc (depth a lead.Free) ≤ suc n → depth a lead.Free < deepest → Says n (level 1) (symbol m ∷ symbol marks.OpenRound ∷ (bare a lead.Free ++ width w)) (Own (widen p resize a w) (suc (depth a lead.Free)))
 unfolding unplaced
-widen_again p q resize a n w again c le lt =
-    says_mark (λ r. says_then (Like a (depth a lead.Free)) (loosely a again n le (omega (arith, lt))) refl (λ y h.
+widen_again p resize a w n m e again c le lt =
+    opened_own (widen p resize a w) m (key.widen resize) (depth a lead.Free) n _ (λ u. u) e (free_some a lead.Free) le (λ q i j.
+    says_mark (λ r. says_then (Like a (depth a lead.Free)) (loosely a again i j (omega (arith, lt))) refl (λ y h.
     let s = h.small in
-    width_again (widen p resize a w) n w y.depth (suc (depth a lead.Free)) (widen q resize y.tree) c (ap (λ z. widen nowhere resize z w) h.alike) (omega (arith, s, lt)) (omega (arith, s))))
+    width_again (widen p resize a w) i w y.depth (suc (depth a lead.Free)) (widen q resize y.tree) (min-eq_left c) (ap (λ z. widen nowhere resize z w) h.alike) (omega (arith, s, lt)) (omega (arith, s)))))
 
-pub constant_again : (p q : Place) (signed : Bool) (v : ℤ) (n w : ℕ) → Signed v → capped w ≡ w → Says n (constant q signed) (symbol marks.OpenRound ∷ (print.integer v ++ width w)) (Like (const p signed v w) 2)
+constant_again : (p : Place) (signed : Bool) (v : ℤ) (w n : ℕ) (m : Mark) → primary_by m ≡ Some (key.opens (key.const signed)) → Signed v → w ≤ widest → 2 ≤ suc n → Says n (level 1) (symbol m ∷ symbol marks.OpenRound ∷ (print.integer v ++ width w)) (Own (const p signed v w) 2)
 unfolding unplaced
-constant_again p q signed v n w s c =
-    says_mark (λ r. says_then (λ w. w ≡ v) (int_again n v s) refl (λ y h.
-    width_again (const p signed v w) n w 1 2 (const q signed y) c (ap (λ z. const nowhere signed z w) (sym h)) (omega arith) (omega arith)))
+constant_again p signed v w n m e s c le =
+    opened_own (const p signed v w) m (key.const signed) 1 n _ (λ u. u) e (omega arith) le (λ q i j.
+    says_mark (λ r. says_then (λ w. w ≡ v) (int_again i v s) refl (λ y h.
+    width_again (const p signed v w) i w 1 2 (const q signed y) (min-eq_left c) (ap (λ z. const nowhere signed z w) (sym h)) (omega arith) (omega arith))))
 
 -- operators before an operand
 pub opened_again : (x a : Tree) (k : Lead) (l n : ℕ) (f : Tree → Tree) → Respelled a → ((y : Tree) → Alike a y → Alike x (f y)) → suc (depth_in k l a) ≤ suc n → depth_in k l a < deepest → Says n (Rattle.smv_rules.specs.Expressions.opened l >>= (λ b. deeper (f b.tree) b.depth)) (spelled k l a) (Like x (suc (depth_in k l a)))
@@ -176,11 +177,9 @@ choice_again p c a b n again again' again'' k le lt =
     let i : ℕ = depth_in k 12 c in
     let d : ℕ = depth a lead.Free in
     let j : ℕ = depth_in lead.Free 13 b in
-    let some = depth_some a lead.Free in
-    let less = held_less a lead.Free in
     says_then (Like c i) (in_place c again k 12 n (omega (arith, le)) (omega (arith, lt))) refl (λ y h.
     says_blank (says_takes (λ q. q) sees_mark (λ q.
-    says_blank (says_then (Like a d) (says_part n d (omega (arith, some, less)) (omega (arith, le)) (λ m e. loosely a again' m e (omega (arith, lt)))) refl (λ x f.
+    says_blank (says_then (Like a d) (says_part n d (free_some a lead.Free) (omega (arith, le)) (λ m e. loosely a again' m e (omega (arith, lt)))) refl (λ x f.
     says_blank (says_mark (λ r.
     says_blank (says_ends (Like b j) (says_part n j (place_some b lead.Free 13) (omega (arith, le)) (λ m e. in_place b again'' lead.Free 13 m e (omega (arith, lt)))) (λ z g.
     let s = h.small in
@@ -276,7 +275,7 @@ further_again n (arm c v bs) s all ys le small =
 
 arms_some : (c v : Tree) (bs : Arms) → 1 ≤ depth_arms (arm c v bs)
 unfolding depth
-arms_some c v bs = let h = depth_some c lead.Free in let g = held_less c lead.Free in omega (arith, h, g)
+arms_some c v bs = let h = free_some c lead.Free in omega (arith, h)
 
 further_more : (bs : Arms) → NoDots (further bs ++ (symbol marks.Semicolon ∷ blank ∷ symbol marks.Esac ∷ []))
 further_more no_arms = refl
@@ -356,7 +355,7 @@ all_again n (tree x xs) some all le small =
 all_some : (es : Trees) → SomeTrees es → 1 ≤ depth_all es
 unfolding depth
 all_some no_trees s = absurd s
-all_some (tree x xs) s = let h = depth_some x lead.Free in let g = held_less x lead.Free in omega (arith, h, g)
+all_some (tree x xs) s = let h = free_some x lead.Free in omega (arith, h)
 
 set_again : (p : Place) (es : Trees) → SomeTrees es → RespelledAll es → Respelled (set p es)
 unfolding bare unplaced depth primary_by
@@ -397,18 +396,6 @@ neg_again p a s again k n le small = by_test (is_negation a) where
   by_test true = says_takes (λ q. q) (record { at = plain }) (λ q. says_blank (said q))
   by_test false = says_takes (λ q. q) (record { at = plain }) said
 
-fits_cap : (n : ℕ) → n ≤ widest → capped n ≡ n
-fits_cap n h = min-eq_left h
-
-widen_own : (p : Place) (resize : Bool) (a : Tree) (w n : ℕ) (m : Mark) → primary_by m ≡ Some (key.opens (key.widen resize)) → Respelled a → w ≤ widest → suc (depth a lead.Free) ≤ suc n → depth a lead.Free < deepest → Says n (level 1) (symbol m ∷ symbol marks.OpenRound ∷ (bare a lead.Free ++ width w)) (Own (widen p resize a w) (suc (depth a lead.Free)))
-widen_own p resize a w n m e again h le lt =
-    let some = depth_some a lead.Free in
-    let less = held_less a lead.Free in
-    primary_own (widen p resize a w) (suc (depth a lead.Free)) n _ (λ u. u) (says_opener (lexeme.Mark m) (key.widen resize) (depth a lead.Free) e (omega (arith, some, less)) (omega (arith, le)) (λ q i j. widen_again p q resize a i w again (fits_cap w h) j lt))
-
-const_own : (p : Place) (signed : Bool) (v : ℤ) (w n : ℕ) (m : Mark) → primary_by m ≡ Some (key.opens (key.const signed)) → Signed v → w ≤ widest → 2 ≤ suc n → Says n (level 1) (symbol m ∷ symbol marks.OpenRound ∷ (print.integer v ++ width w)) (Own (const p signed v w) 2)
-const_own p signed v w n m e s h le = primary_own (const p signed v w) 2 n _ (λ u. u) (says_opener (lexeme.Mark m) (key.const signed) 1 e (omega arith) (omega (arith, le)) (λ q i j. constant_again p q signed v i w s (fits_cap w h)))
-
 mutual
   unfolding bare unplaced depth Scannables primary_by
 
@@ -427,12 +414,12 @@ mutual
   respelled (one p op1.Neg a) s k n le small = neg_again p a s (respelled a s) k n le small
   respelled (one p o a) s k n le small = function_again (one p o a) a _ (key.function o) (λ q. one q o) n (respelled a s) (λ u. u) refl (λ q. refl) (λ q y g. ap (one nowhere o) g) le small
   respelled (two p o a b) s k n le small = two_again p o a b (respelled a s.0) (respelled b s.1) k n le small
-  respelled (select p a high low) s k n le small = select_again p a high low n (respelled a s.0) (fits_cap high s.1) (fits_cap low s.2) k le small
+  respelled (select p a high low) s k n le small = select_again p a high low n (respelled a s.0) (min-eq_left s.1) (min-eq_left s.2) k le small
   respelled (next p a) s k n le small = function_again (next p a) a marks.Next key.next next n (respelled a s) (λ u. u) refl (λ q. refl) (λ q y g. ap (next nowhere) g) le small
-  respelled (widen p true a w) s k n le small = widen_own p true a w n marks.Resize refl (respelled a s.0) s.1 le small
-  respelled (widen p false a w) s k n le small = widen_own p false a w n marks.Extend refl (respelled a s.0) s.1 le small
-  respelled (const p true v w) s k n le small = const_own p true v w n marks.SwConst refl s.0 s.1 le
-  respelled (const p false v w) s k n le small = const_own p false v w n marks.UwConst refl s.0 s.1 le
+  respelled (widen p true a w) s k n le small = widen_again p true a w n marks.Resize refl (respelled a s.0) s.1 le small
+  respelled (widen p false a w) s k n le small = widen_again p false a w n marks.Extend refl (respelled a s.0) s.1 le small
+  respelled (const p true v w) s k n le small = constant_again p true v w n marks.SwConst refl s.0 s.1 le
+  respelled (const p false v w) s k n le small = constant_again p false v w n marks.UwConst refl s.0 s.1 le
   respelled (count p es) s k n le small = count_again p es s.0 (respelled_all es s.1) k n le small
 
   respelled_all : (es : Trees) → EachScannable es → RespelledAll es
