@@ -23,7 +23,7 @@ use Rattle.smv_printing.specs.declared.lead.Lead.{Lead}
 use Rattle.smv_printing.specs.declared.lead.Lead.TheVariants as lead
 use Rattle.smv_printing.proofs.Says.{level_by}
 use Rattle.smv_printing.proofs.Fits.{depth, depth_all, depth_arms, depth_in, AllFit, ArmsFit, Clean, Fits, branch_added, fit_added, fits_any, fits_looser, fits_plain, free_part, is_plain, round_bare, round_fits}
-use Rattle.smv_printing.proofs.Giving.{After, Called, Given, Gives, OwnPrimary, floor, primary_role, Fails, Kept, Spans, lift, part_role, role_by, role_seen, saw, stepped}
+use Rattle.smv_printing.proofs.Giving.{After, Called, Given, Gives, OwnPrimary, floor, primary_role, Fails, Kept, Spans, lift, part_role, seen}
 use Rattle.smv_token.specs.declared.token.Token.{Token}
 use Rattle.smv_rules.specs.Follows.{Mode, Follows, done, has, takes, skips, nests, stays, chains, stops, goes_on}
 
@@ -296,14 +296,10 @@ pub gave : {m : Mode} {n : ℕ} {s : Sort} {r : Rule s} {ts rest : List Token} {
 unfolding Gives
 gave (done n s x ts) c i P a b h = record { left = i; holds = h; spans = λ m. refl; scannable = a }
 gave (has n s k f t p ts rest x e j) c i P a b h =
-    let g = h p (saw k c t ts p e a.0 b) in
-    let Q : ℕ → Type 0 = λ j. Gives false j (f p) P in
-    let w = stepped t ts (role_by k p) (role_seen k t ts p i Q e g) i Q g in
+    let w = seen k c t ts p i (λ j. Gives false j (f p) P) e a.0 b (h p) in
     behind w.left w.spans (gave j false w.left P a.1 (not_clean ts) w.holds)
 gave (takes n s k f r t p ts rest x e j) c i P a b h =
-    let g = h.0 p (saw k c t ts p e a.0 b) in
-    let Q : ℕ → Type 0 = λ j. Gives false j (f p) P in
-    let w = stepped t ts (role_by k p) (role_seen k t ts p i Q e g) i Q g in
+    let w = seen k c t ts p i (λ j. Gives false j (f p) P) e a.0 b (h.0 p) in
     behind w.left w.spans (gave j false w.left P a.1 (not_clean ts) w.holds)
 gave (skips n s k f r ts rest x u j) c i P a b h = gave j c i P a b h.1
 gave (nests n s p r ts rest x j) c i P a b h = entered p i P ts rest x h.0 (λ e. gave j false (open_in p) (λ j y. (j ≡ 0) × Given p y) a (not_clean ts) (given_part p e))
@@ -314,8 +310,6 @@ gave (chains n z s r f ts us rest y x j k) c i P a b h =
 gave (stops n s k f y ts u) c i P a b h = record { left = i; holds = h.2 y h.1; spans = λ m. refl; scannable = a }
 gave (goes_on n s k f y t p ts us rest z x e j l) c i P a b h =
     let P' : ℕ → Gift s → Type 0 = λ m y. (m ≡ i) × Kept s k h.0 y in
-    let Q : ℕ → Type 0 = λ j. Gives false j (f y p) P' in
-    let v = h.3 y p h.1 (saw k false t ts p e a.0 (λ e. absurd (no_true e))) in
-    let w = stepped t ts (role_by k p) (role_seen k t ts p i Q e v) i Q v in
+    let w = seen k false t ts p i (λ j. Gives false j (f y p) P') e a.0 (λ e. absurd (no_true e)) (h.3 y p h.1) in
     let g = gave j false w.left P' a.1 (not_clean ts) w.holds in
     behind w.left w.spans (behind i (subst (λ q. Spans w.left q ts us) g.holds.0 g.spans) (gave l false i P g.scannable (not_clean us) (h.0, g.holds.1, h.2, h.3)))
