@@ -126,19 +126,19 @@ pub record Sees (k : Key) (w : Lexeme) (is : List Ink) (load : Place → Payload
 pub sees_alone : {k : Key} {w : Lexeme} {is : List Ink} {load : Place → Payload k} → ((p : Place) (us : List Token) → sees k (stands p w) us ≡ Some (load p)) → Sees k w is load
 sees_alone e = record { at = λ p us rest l q. e p us }
 
-pub says_must : {n : ℕ} {s : Sort} {k : Key} {f : Payload k → Rule s} {w : Lexeme} {is : List Ink} {G : Gift s → Type 0} (load : Place → Payload k) → Sees k w is load → ((p : Place) → Says n (f (load p)) is G) → Says n (must s k f) (token w ∷ is) G
-says_must {n} {s} {k} {f} {w} {is} {G} load e h = record {
+-- a token, and what the rule follows behind it
+says_on : {n : ℕ} {s : Sort} {k : Key} {f : Payload k → Rule s} {r : Rule s} {w : Lexeme} {is : List Ink} {G : Gift s → Type 0} (load : Place → Payload k) → ((t : Token) (p : Payload k) (us rest : List Token) (x : Gift s) → sees k t us ≡ Some p → Follows plain n s (f p) us rest x → Follows plain n s r (t ∷ us) rest x) → Sees k w is load → ((p : Place) → Says n (f (load p)) is G) → Says n r (token w ∷ is) G
+says_on {w = w} load make e h = record {
   along = λ ts rest l q a.
       let y = (h l.place).along l.others rest l.behind q (past l.is a) in
-      said_at l.is (record { given = y.given; follows = has n s k f (stands l.place w) (load l.place) l.others rest y.given (e.at l.place l.others rest l.behind q) y.follows; holds = y.holds });
+      said_at l.is (record { given = y.given; follows = make (stands l.place w) (load l.place) l.others rest y.given (e.at l.place l.others rest l.behind q) y.follows; holds = y.holds });
 }
 
+pub says_must : {n : ℕ} {s : Sort} {k : Key} {f : Payload k → Rule s} {w : Lexeme} {is : List Ink} {G : Gift s → Type 0} (load : Place → Payload k) → Sees k w is load → ((p : Place) → Says n (f (load p)) is G) → Says n (must s k f) (token w ∷ is) G
+says_must {n} {s} {k} {f} load e h = says_on {f = f} load (λ t p us rest x. has n s k f t p us rest x) e h
+
 pub says_takes : {n : ℕ} {s : Sort} {k : Key} {f : Payload k → Rule s} {r : Rule s} {w : Lexeme} {is : List Ink} {G : Gift s → Type 0} (load : Place → Payload k) → Sees k w is load → ((p : Place) → Says n (f (load p)) is G) → Says n (may s k f r) (token w ∷ is) G
-says_takes {n} {s} {k} {f} {r} {w} {is} {G} load e h = record {
-  along = λ ts rest l q a.
-      let y = (h l.place).along l.others rest l.behind q (past l.is a) in
-      said_at l.is (record { given = y.given; follows = takes n s k f r (stands l.place w) (load l.place) l.others rest y.given (e.at l.place l.others rest l.behind q) y.follows; holds = y.holds });
-}
+says_takes {n} {s} {k} {f} {r} load e h = says_on {f = f} load (λ t p us rest x. takes n s k f r t p us rest x) e h
 
 pub says_skips : {n : ℕ} {s : Sort} {k : Key} {f : Payload k → Rule s} {r : Rule s} {is : List Ink} {G : Gift s → Type 0} → ((ts : List Token) → Ruled k ts) → Says n r is G → Says n (may s k f r) is G
 says_skips {n} {s} {k} {f} {r} u h = record {
@@ -176,13 +176,7 @@ sees_mark {m} {is} = sees_alone (mark_seen m)
 
 -- a rule of one token, and another
 says_token : {n : ℕ} {z s : Sort} {k : Key} (g : Payload k → Gift z) {f : Gift z → Rule s} {w : Lexeme} {is : List Ink} {G : Gift s → Type 0} (load : Place → Payload k) → Sees k w is load → ((p : Place) → Says n (f (g (load p))) is G) → Says n (must z k (λ p. gives z (g p)) >>= f) (token w ∷ is) G
-says_token {n} {z} {s} {k} g {f} {w} load e h = record {
-  along = λ ts rest l q a.
-      let x = load l.place in
-      let us = l.others in
-      let y = (h l.place).along us rest l.behind q (past l.is a) in
-      said_at l.is (record { given = y.given; follows = chains n z s (must z k (λ p. gives z (g p))) f (stands l.place w ∷ us) us rest (g x) y.given (has n z k (λ p. gives z (g p)) (stands l.place w) x us us (g x) (e.at l.place us rest l.behind q) (done n z (g x) us)) y.follows; holds = y.holds });
-}
+says_token {n} {z} {s} {k} g {f} load e h = says_on {f = λ p. f (g p)} load (λ t p us rest x i j. chains n z s (must z k (λ p. gives z (g p))) f (t ∷ us) us rest (g p) x (has n z k (λ p. gives z (g p)) t p us us (g p) i (done n z (g p) us)) j) e h
 
 pub says_mark : {n : ℕ} {s : Sort} {m : Mark} {f : Place → Rule s} {is : List Ink} {G : Gift s → Type 0} → ((p : Place) → Says n (f p) is G) → Says n (mark m >>= f) (symbol m ∷ is) G
 says_mark {m = m} h = says_token (λ p. p) (λ p. p) (sees_mark {m = m}) h
