@@ -1,38 +1,116 @@
 -- What is printed of a formula is said again, as one alike that is as deep as what is printed.
-use Rattle.std.proofs.Common.{◌≡◌, ◌≤◌, ◌<◌, ◌-◌, ◌==◌, ◌∙◌, ℕ, zero, suc, max, Bool, true, false, cond, nat_lt, List, [], ◌∷◌, ◌++◌, Some, None, refl, sym, subst, ap, arith}
-use Rattle.std.proofs.lemmas.Bool.{eqb-true, lt-ltb, ltb-false, ltb-true}
-use Rattle.smv_tree.specs.declared.formula.FormOp.{FormOp}
-use Rattle.smv_tree.specs.declared.formula.FormOp.TheVariants as op
+use Rattle.std.proofs.Common.{◌≡◌, ◌==◌, ◌∙◌, ℕ, zero, suc, Bool, true, false, cond, List, ◌∷◌, Some, None, refl, subst, ap, inl, inr, ◌≤◌, ◌<◌, ◌-◌, max, nat_lt, [], ◌++◌, sym, arith}
 use Rattle.smv_tree.specs.declared.place.Place.{Place}
-use Rattle.smv_tree.specs.Models.{Claim, atom, no, after, always, some_time, both}
-use Rattle.smv_tree.specs.Trees.{Tree}
 use Rattle.smv_token.specs.declared.mark.Mark.{Mark}
 use Rattle.smv_token.specs.declared.mark.Mark.TheVariants as marks
 use Rattle.smv_token.specs.declared.token.Token.{Token}
+use Rattle.smv_token.specs.declared.token.Lexeme.{Lexeme}
 use Rattle.smv_token.specs.declared.token.Lexeme.TheVariants as lexeme
-use Rattle.smv_grammar.specs.Forms.{deepest, is_dots}
-use Rattle.smv_grammar.specs.Formulas.{bracket_if, holds_temporal, outermost, start_at, start_by}
-use Rattle.smv_rules.specs.Keys.{begins_with, if_there, is_bracket, prefix_of, sees}
+use Rattle.smv_grammar.specs.Forms.{begins_range, deepest, is_dots}
+use Rattle.smv_grammar.specs.Formulas.{bracket_if, holds_temporal, opens, plain, role, role_of, start_at, start_by, outermost}
+use Rattle.smv_grammar.specs.IsMark.{is_mark, same_mark}
+use Rattle.smv_rules.specs.Keys.{Primary, if_there, is_bracket, is_operand, prefix_of, primary_by, primary_of, sees}
 use Rattle.smv_rules.specs.Keys as key
-use Rattle.smv_rules.specs.Sorts.{Formula, a_formula, an_expression}
-use Rattle.smv_rules.specs.Rules.{Rule, gives, too_deep, ◌>>=◌}
+use Rattle.smv_rules.specs.Sorts.{Expression, an_expression, Formula, a_formula}
+use Rattle.smv_rules.specs.Rules.{Rule, ◌>>=◌, gives, too_deep}
 use Rattle.smv_rules.specs.Table.{table}
-use Rattle.smv_rules.specs.Expressions.{level}
-use Rattle.smv_rules.specs.Formulas.{an_atom, deeper, formula_level, implied, joined, operand}
-use Rattle.smv_rules.specs.Follows.{Follows, plain, done, takes, skips, chains}
+use Rattle.smv_rules.specs.Expressions.{level, level_from, primary, primary_from}
+use Rattle.smv_rules.specs.Expressions as expressions
+use Rattle.smv_rules.specs.Follows.{Follows, done, takes, skips, chains}
+use Rattle.smv_rules.specs.Follows as follows
+use Rattle.smv_printing.proofs.ScannedTokens.{AllScannable, ClaimScannable, Scannables}
+use Rattle.smv_printing.proofs.Says.{level_by, loosened, past, Says, said_at, says_blank, says_ends, says_gives, says_joined, says_mark, says_part, says_skips, says_stops, says_takes, says_then, sees_alone, stands, in_place}
+use Rattle.smv_printing.proofs.Fits.{Fits, place_some}
+use Rattle.smv_rules.proofs.Firsts.{is_mark_true}
+use Rattle.smv_printing.proofs.Giving.{Spans, not_first, placed, primary_role, primary_seen, there}
+use Rattle.smv_printing.proofs.GivenParts.{level_gives, gave, not_clean}
+use Rattle.smv_printing.proofs.ClaimsGiven.{Inverse, inverse, timed, timed_alike, Bracketed, Timely, claim_depth, placed_depth, closing, shut, grouped, nested}
+use Rattle.std.proofs.lemmas.Bool.{eqb-true, lt-ltb, ltb-false}
+use Rattle.smv_tree.specs.declared.formula.FormOp.{FormOp}
+use Rattle.smv_tree.specs.declared.formula.FormOp.TheVariants as op
+use Rattle.smv_tree.specs.Models.{Claim, atom, no, after, always, some_time, both}
+use Rattle.smv_tree.specs.Trees.{Tree}
+use Rattle.smv_rules.specs.Formulas.{enclosed, an_atom, deeper, formula_level, implied, joined, operand}
 use Rattle.smv_printing.specs.Alike.{AlikeClaims, claim_unplaced}
 use Rattle.smv_printing.specs.declared.lead.Lead.TheVariants as lead
 use Rattle.smv_printing.specs.Printing.{Ink, around, blank, claim_inks, claim_level, claim_part, level_of_claim, mark_of_claim, spelled, symbol, left_of, right_of}
-use Rattle.smv_printing.specs.Scannables.{ClaimScannable, Scannables}
-use Rattle.smv_printing.proofs.PrintedDepth.{place_some}
-use Rattle.smv_printing.proofs.Says.{Says, past, said_at, says_blank, says_ends, says_gives, says_joined, says_mark, says_part, says_skips, says_stops, says_takes, says_then, sees_alone, stands}
-use Rattle.smv_printing.proofs.SaysLevels.{in_place}
-use Rattle.smv_printing.proofs.Openings.{no_bang, opens_in}
-use Rattle.smv_printing.proofs.RespelledTrees.{respelled}
-use Rattle.smv_printing.proofs.Timed.{timed, timed_alike}
-use Rattle.smv_printing.proofs.ClaimsFit.{Bracketed, Timely, claim_depth, placed_depth}
-use Rattle.smv_printing.proofs.ClaimsGiven.{enclosed, grouped, nested}
-use Rattle.smv_printing.proofs.AtomStarts.{atom_group, atom_prefix, starts}
+use Rattle.smv_printing.proofs.Openings.{atom_opens, opens_in}
+use Rattle.smv_printing.proofs.Respelled.{respelled}
+
+pub record Start (ts : List Token) : Type 0 where
+  pub first : Token
+  pub others : List Token
+  pub is : ts ≡ first ∷ others
+  pub calm : role first ≡ opens → holds_temporal 0 others ≡ false
+
+-- a bracket around an expression
+enclosed_calm : (n : ℕ) (us rest : List Token) (x : Expression) → Follows follows.plain n an_expression expressions.enclosed us rest x → AllScannable us → holds_temporal 0 us ≡ false
+unfolding Inverse
+enclosed_calm n us rest x h a =
+    let c = inverse h in
+    let d = inverse c.behind in
+    let k = inverse d.before in
+    let P : ℕ → Expression → Type 0 = λ j y. (j ≡ 0) × Fits false 15 y in
+    let g = gave c.before false 0 P a (not_clean us) (level_gives 15 false 0 P (λ x f. (refl, f))) in
+    let s : Spans 0 0 us c.between = subst (λ q. Spans 0 q us c.between) g.holds.0 g.spans in
+    s 0 ∙ ap (holds_temporal 0) k.is ∙ shut k.first k.others (closing k.first k.others k.load k.seen)
+
+no_opens : (t : Token) → role t ≡ plain → role t ≡ opens → ⊥
+no_opens t e f = absurd (cc)
+
+primary_calm : (n : ℕ) (t : Token) (o : Primary) (p : Place) (us rest : List Token) (x : Expression) → role t ≡ primary_role o → Follows follows.plain n an_expression (primary_from o p) us rest x → AllScannable us → role t ≡ opens → holds_temporal 0 us ≡ false
+unfolding Inverse table
+primary_calm zero t (key.opens key.round) p us rest x e h a r = absurd (inverse (inverse h))
+primary_calm (suc n) t (key.opens key.round) p us rest x e h a r = enclosed_calm n us rest x (inverse h) a
+primary_calm n t o p us rest x e h a r = absurd (no_opens t e r)
+
+primary_starts : (n : ℕ) (ts rest : List Token) (x : Expression) → Follows follows.plain n an_expression primary ts rest x → AllScannable ts → Start ts
+unfolding Inverse sees
+primary_starts n ts rest x h a =
+    let k = inverse h in
+    let e = placed (primary_of k.first.lexeme) k.first.place k.load k.seen in
+    record { first = k.first; others = k.others; is = k.is; calm = primary_calm n k.first k.load.0 k.load.1 k.others rest x (primary_seen k.first.lexeme k.load.0 e) k.follows (past k.is a) }
+
+mark_start : (m : Mark) (t : Token) (us ts : List Token) → ts ≡ t ∷ us → t.lexeme ≡ lexeme.Mark m → role_of (lexeme.Mark m) ≡ plain → Start ts
+mark_start m t us ts i e r = record { first = t; others = us; is = i; calm = λ s. absurd (no_opens t (ap role_of e ∙ r) s) }
+
+level_starts : (n l : ℕ) (tighter : Rule an_expression) → ((ts rest : List Token) (x : Expression) → Follows follows.plain n an_expression tighter ts rest x → AllScannable ts → Start ts) → (ts rest : List Token) (x : Expression) → Follows follows.plain n an_expression (level_from l tighter) ts rest x → AllScannable ts → Start ts
+unfolding Inverse sees
+level_starts n l tighter more ts rest x h a = level_by (λ r. Follows follows.plain n an_expression r ts rest x → Start ts) l tighter (λ e h. first h) (λ e h. elim (inverse h) [
+  | inl k ↦ mark_start marks.Bang k.first k.others ts k.is (is_mark_true marks.Bang k.first.lexeme (there (is_mark marks.Bang k.first.lexeme) k.first.place k.load k.seen)) refl
+  | inr k ↦ more ts rest x k.1 a
+]) (λ e h. elim (inverse h) [
+  | inl k ↦ mark_start marks.Minus k.first k.others ts k.is (is_mark_true marks.Minus k.first.lexeme (not_first (begins_range k.others) (is_mark marks.Minus k.first.lexeme) k.first.place k.load k.seen)) refl
+  | inr k ↦ more ts rest x k.1 a
+]) (λ e h. first h) (λ e h. first h) (λ h. first h) h where
+  first : {f : Expression → Rule an_expression} → Follows follows.plain n an_expression (tighter >>= f) ts rest x → Start ts
+  first h = let k = inverse h in more ts k.between k.given k.before a
+
+pub starts : (n l : ℕ) (ts rest : List Token) (x : Expression) → Follows follows.plain n an_expression (level l) ts rest x → AllScannable ts → Start ts
+unfolding level
+starts n zero ts rest x h a = primary_starts n ts rest x h a
+starts n (suc l) ts rest x h a = level_starts n (suc l) (level l) (λ ts rest x h a. starts n l ts rest x h a) ts rest x h a
+
+-- what an atom begins with
+pub atom_prefix : (w : Lexeme) (h : Bool) → is_operand w ≡ true → is_mark marks.Bang w ≡ false → prefix_of (start_at w h) ≡ None
+unfolding same_mark primary_by
+atom_prefix (lexeme.Mark m) h o b = by m h o b where
+  by : (m : Mark) (h : Bool) → is_operand (lexeme.Mark m) ≡ true → is_mark marks.Bang (lexeme.Mark m) ≡ false → prefix_of (start_by m h) ≡ None
+  by marks.Bang h o b = absurd (cc)
+  by marks.WordX h o b = absurd (cc)
+  by marks.WordG h o b = absurd (cc)
+  by marks.WordF h o b = absurd (cc)
+  by marks.OpenRound true o b = refl
+  by marks.OpenRound false o b = refl
+  by m h o b = refl
+atom_prefix w h o b = refl
+
+pub atom_group : (w : Lexeme) (h : Bool) → (role_of w ≡ opens → h ≡ false) → is_bracket (start_at w h) ≡ false
+atom_group (lexeme.Mark m) h c = by m c where
+  by : (m : Mark) → (role_of (lexeme.Mark m) ≡ opens → h ≡ false) → is_bracket (start_by m h) ≡ false
+  by marks.OpenRound c = ap (λ h. is_bracket (bracket_if h)) (c refl)
+  by m c = refl
+atom_group w h c = refl
 
 -- a formula alike that is no deeper
 pub record LikeClaim (c : Claim) (d : ℕ) (y : Formula) : Type 0 where
@@ -68,11 +146,7 @@ looser n l is G some h = by_test (suc l == 1) refl (suc l == outermost) where
   by_test false e false = says_ends G h (λ a g. says_stops (λ us. tt) g)
 
 at_least : (n l m : ℕ) (is : List Ink) (G : Formula → Type 0) → 1 ≤ l → l ≤ m → Says n (formula_level l) is G → Says n (formula_level m) is G
-at_least n l zero is G some le h = absurd (omega (arith, some, le))
-at_least n l (suc m) is G some le h = by_test (λ t. at_least n l m is G some t h) (nat_lt m l) refl where
-  by_test : (l ≤ m → Says n (formula_level m) is G) → (b : Bool) → nat_lt m l ≡ b → Says n (formula_level (suc m)) is G
-  by_test more true e = let t = ltb-true m l e in let i : l ≡ suc m = omega (arith, le, t) in subst (λ i. Says n (formula_level i) is G) i h
-  by_test more false e = let t = ltb-false m l e in looser n m is G (omega (arith, some, t)) (more t)
+at_least n l m is G some = loosened formula_level n l m is G (λ i le. looser n i is G (omega (arith, some, le)))
 
 says_deeper : (n : ℕ) (c : Claim) (d : ℕ) (G : Formula → Type 0) → d < deepest → G (record { claim = c; depth = suc d }) → Says n (deeper c d) [] G
 says_deeper n c d G lt g = subst (λ b. Says n (cond b (gives a_formula (record { claim = c; depth = suc d })) (too_deep a_formula)) [] G) (sym (lt-ltb d deepest lt)) (says_gives g)
@@ -88,16 +162,16 @@ atom_again x s n le small = record {
   along = λ ts rest l q a.
       let y = (in_place x (respelled x s) lead.Atom 10 n le small).along ts rest l q a in
       let o = starts n 10 ts rest y.given y.follows a in
-      let b = ap (begins_with marks.Bang) (sym o.is) ∙ no_bang (spelled lead.Atom 10 x) ts rest (opens_in x lead.Atom 10 s) l in
+      let w = atom_opens 10 (spelled lead.Atom 10 x) ts rest o.others o.first (opens_in x lead.Atom 10 s) l o.is in
       let c : Formula = record { claim = atom y.given.tree; depth = y.given.depth } in
       let t = o.first in
       let us = o.others in
-      let P : List Token → Type 0 = λ ts. Follows plain n an_expression (level 10) ts rest y.given in
-      let atom_is : Follows plain n a_formula an_atom (t ∷ us) rest c = chains n an_expression a_formula (level 10) _ (t ∷ us) rest rest y.given c (subst P o.is y.follows) (done n a_formula c rest) in
+      let P : List Token → Type 0 = λ ts. Follows follows.plain n an_expression (level 10) ts rest y.given in
+      let atom_is : Follows follows.plain n a_formula an_atom (t ∷ us) rest c = chains n an_expression a_formula (level 10) _ (t ∷ us) rest rest y.given c (subst P o.is y.follows) (done n a_formula c rest) in
       let group_is = unseen (is_bracket (start_at t.lexeme (holds_temporal 0 us))) t.place (atom_group t.lexeme (holds_temporal 0 us) o.calm) in
       said_at o.is (record {
         given = c;
-        follows = skips n a_formula key.before_formula _ _ (t ∷ us) rest c (atom_prefix t.lexeme (holds_temporal 0 us) o.operand b) (skips n a_formula key.group _ _ (t ∷ us) rest c group_is atom_is);
+        follows = skips n a_formula key.before_formula _ _ (t ∷ us) rest c (atom_prefix t.lexeme (holds_temporal 0 us) w.0 w.1) (skips n a_formula key.group _ _ (t ∷ us) rest c group_is atom_is);
         holds = record { alike = ap atom y.holds.alike; small = y.holds.small };
       });
 }

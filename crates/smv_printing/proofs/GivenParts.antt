@@ -1,7 +1,7 @@
--- The rules of expressions: what they give is printed no deeper than it is.
-use Rattle.std.proofs.Common.{◌≡◌, ◌≤◌, ◌<◌, ◌==◌, ◌-◌, ℕ, ℤ, zero, suc, max, min, pos, Bool, true, false, cond, List, [], ◌∷◌, ◌++◌, refl, sym, subst, arith}
+-- What rules of expressions give has what their forms say, and is printed no deeper than it is.
+use Rattle.std.proofs.Common.{◌≡◌, ◌≤◌, ◌<◌, ◌-◌, ℕ, ℤ, zero, suc, max, min, pos, Bool, true, false, cond, List, [], ◌∷◌, ◌++◌, refl, sym, ap, subst, arith, ◌∙◌}
 use Rattle.std.specs.Prelude.{neg_ℤ, nat_lt}
-use Rattle.std.proofs.lemmas.Bool.{eqb-true, ltb-true}
+use Rattle.std.proofs.lemmas.Bool.{ltb-true}
 use Rattle.smv_tree.specs.declared.expr.Op1.{Op1}
 use Rattle.smv_tree.specs.declared.expr.Op1.TheVariants as op1
 use Rattle.smv_tree.specs.declared.expr.Op2.{Op2}
@@ -10,20 +10,22 @@ use Rattle.smv_tree.specs.declared.place.Place.{Place}
 use Rattle.smv_tree.specs.Trees.{Tree, truth, number, word, name, span, set, cases, choice, one, two, select, next, widen, const, count, trees, arms}
 use Rattle.smv_token.specs.declared.mark.Mark.TheVariants as marks
 use Rattle.smv_grammar.specs.Forms.{capped, deepest, integer}
-use Rattle.smv_rules.specs.Keys.{Opener, Primary, primary_by}
+use Rattle.smv_rules.specs.Keys.{Opener, Primary, begins_with}
 use Rattle.smv_rules.specs.Keys as key
-use Rattle.smv_rules.specs.Sorts.{Expression, Operands, Branches, Sort, an_expression}
-use Rattle.smv_rules.specs.Rules.{Part, gives, too_deep, may, expression, formula, inside, bits, ◌>>=◌}
+use Rattle.smv_rules.specs.Sorts.{Expression, Operands, Branches, Sort, an_expression, Gift}
+use Rattle.smv_rules.specs.Rules.{Part, gives, too_deep, may, expression, formula, inside, bits, ◌>>=◌, Rule}
 use Rattle.smv_rules.specs.Table.{table}
 use Rattle.smv_rules.specs.Expressions.{an_int, applied, branch, chosen, constant, counted, deeper, enclosed, implied, joined, level, level_from, listed, listed_branches, mark, more_branches, nested, number as a_number, no_branches, operands, prefixed, primary, primary_from, range_from, selected, selecting, widened}
-use Rattle.smv_printing.specs.Scannables.{ArmsScannable, OwnName, OwnNames, OwnPath, Scannable, Scannables, Signed, greatest}
-use Rattle.smv_printing.specs.Printing.{path_head, right_level, left_level}
+use Rattle.smv_printing.proofs.ScannedTokens.{ArmsScannable, OwnName, OwnNames, OwnPath, Scannable, Scannables, Signed, greatest, AllScannable}
+use Rattle.smv_printing.specs.Printing.{left_level, mark_of_two, operator_level, path_head, right_level}
 use Rattle.smv_printing.specs.Printing as print
 use Rattle.smv_printing.specs.declared.lead.Lead.{Lead}
 use Rattle.smv_printing.specs.declared.lead.Lead.TheVariants as lead
-use Rattle.smv_printing.proofs.PrintedDepth.{depth, depth_all, depth_arms, depth_in}
-use Rattle.smv_printing.proofs.Fits.{AllFit, ArmsFit, Clean, Fits, branch_added, fit_added, fits_any, fits_looser, fits_plain, free_part, is_plain, round_bare, round_fits}
-use Rattle.smv_printing.proofs.Giving.{After, Called, Given, Gives, OwnOperator, OwnPrimary, floor, primary_role}
+use Rattle.smv_printing.proofs.Says.{level_by}
+use Rattle.smv_printing.proofs.Fits.{depth, depth_all, depth_arms, depth_in, AllFit, ArmsFit, Clean, Fits, branch_added, fit_added, fits_any, fits_looser, fits_plain, free_part, is_plain, round_bare, round_fits}
+use Rattle.smv_printing.proofs.Giving.{After, Called, Given, Gives, OwnPrimary, floor, primary_role, Fails, Kept, Spans, lift, part_role, seen}
+use Rattle.smv_token.specs.declared.token.Token.{Token}
+use Rattle.smv_rules.specs.Follows.{Mode, Follows, done, has, takes, skips, nests, stays, chains, stops, goes_on}
 
 abbrev pub open_in : {s : Sort} → Part s → ℕ
 open_in (inside key.round p) = 1
@@ -61,9 +63,8 @@ span_fits : (c : Bool) (p : Place) (low high : ℤ) → Signed low → Signed hi
 unfolding depth Scannables
 span_fits c p low high s t = record { well = (s, t); shallow = λ k g. by k; bare = λ e. tt; within = omega arith } where
   by : (k : Lead) → depth_in k 1 (span p low high) ≤ 2
-  by lead.Free = omega arith
   by lead.Minus = omega arith
-  by lead.Atom = omega arith
+  by k = omega arith
 
 range_gives : (c a : Bool) (i : ℕ) (p : Place) (minus : Bool) (n : ℕ) (P : ℕ → Expression → Type 0) → ((x : Expression) → Fits c 1 x → P i x) → Gives a i (range_from p minus n) P
 unfolding Gives
@@ -97,49 +98,33 @@ primary_gives c i P h = λ o s. by o.0 o.1 s where
 abbrev Good : ℕ → Type 1
 Good l = (c : Bool) (i : ℕ) (P : ℕ → Expression → Type 0) → ((x : Expression) → Fits c (floor l) x → P i x) → Gives c i (level l) P
 
-joined_fits : (c : Bool) (l : ℕ) (p : Place) (o : Op2) (a b : Expression) → OwnOperator l o → Fits c l a → Fits false (l - 1) b → max a.depth b.depth < deepest → Fits c l (record { tree = two p o a.tree b.tree; depth = suc (max a.depth b.depth); bare = false })
+joined_fits : (c : Bool) (l u v : ℕ) (p : Place) (o : Op2) (a b : Expression) → operator_level (mark_of_two o) ≡ l → left_level l ≡ u → right_level l ≡ v → Fits c u a → Fits false v b → max a.depth b.depth < deepest → Fits c l (record { tree = two p o a.tree b.tree; depth = suc (max a.depth b.depth); bare = false })
 unfolding Scannables depth
-joined_fits c l p o a b own f g w =
-    let same = own.0 in
+joined_fits c l u v p o a b same left right f g w =
     fits_plain c l (two p o a.tree b.tree) (suc (max a.depth b.depth)) (f.well, g.well) (omega (arith, same)) refl (λ k e.
-    let P : ℕ → Type 0 = λ i. depth_in k (left_level i) a.tree ≤ a.depth in
-    let Q : ℕ → Type 0 = λ i. depth_in lead.Free (right_level i) b.tree ≤ b.depth in
-    let i : depth_in k (left_level (print.level (two p o a.tree b.tree))) a.tree ≤ a.depth = subst P (sym same) (subst (λ i. depth_in k i a.tree ≤ a.depth) (sym own.1) (f.shallow k e)) in
-    let j : depth_in lead.Free (right_level (print.level (two p o a.tree b.tree))) b.tree ≤ b.depth = subst Q (sym same) (subst (λ i. depth_in lead.Free i b.tree ≤ b.depth) (sym own.2) (g.shallow lead.Free tt)) in
+    let i : depth_in k (left_level (operator_level (mark_of_two o))) a.tree ≤ a.depth = subst (λ i. depth_in k i a.tree ≤ a.depth) (sym (ap left_level same ∙ left)) (f.shallow k e) in
+    let j : depth_in lead.Free (right_level (operator_level (mark_of_two o))) b.tree ≤ b.depth = subst (λ i. depth_in lead.Free i b.tree ≤ b.depth) (sym (ap right_level same ∙ right)) (g.shallow lead.Free tt) in
     omega (arith, i, j)) w
 
 infix_gives : (l : ℕ) → 1 ≤ l → floor l ≡ l → Good l → (c : Bool) (i : ℕ) (P : ℕ → Expression → Type 0) → ((x : Expression) → Fits c (suc l) x → P i x) → Gives c i (level l >>= joined (suc l) (level l)) P
 unfolding Gives
-infix_gives l some e good c i P h = good c i _ (λ a f. (c, fits_looser c (floor l) (suc l) a (omega (arith, e)) f, h, (λ x o g own. good false i _ (λ b r. deeper_gives i (two o.1 o.0 x.tree b.tree) (max x.depth b.depth) (λ m y. (m ≡ i) × Fits c (suc l) y) (λ w. (refl, joined_fits c (suc l) o.1 o.0 x b own g (fits_looser false (floor l) (suc l - 1) b (omega (arith, e)) r) w))))))
+infix_gives l some e good c i P h = good c i _ (λ a f. (c, fits_looser c (floor l) (suc l) a (omega (arith, e)) f, h, (λ x o g own. good false i _ (λ b r. deeper_gives i (two o.1 o.0 x.tree b.tree) (max x.depth b.depth) (λ m y. (m ≡ i) × Fits c (suc l) y) (λ w. (refl, joined_fits c (suc l) (suc l) (suc l - 1) o.1 o.0 x b own.0 own.1 own.2 g (fits_looser false (floor l) (suc l - 1) b (omega (arith, e)) r) w))))))
 
 selected_gives : (c : Bool) (i : ℕ) (P : ℕ → Expression → Type 0) → ((x : Expression) → Fits c 1 x → P i x) → Gives c i (primary >>= selected) P
 unfolding Gives
 selected_gives c i P h = primary_gives c i _ (λ a f. (c, f, h, (λ b p g s. ((λ x k. (refl, k c g)), tt))))
 
-choice_fits : (x : Bool) (p : Place) (c a b : Expression) → Fits x 12 c → Fits false 15 a → Fits false 13 b → max c.depth (max a.depth b.depth) < deepest → Fits x 13 (record { tree = choice p c.tree a.tree b.tree; depth = suc (max c.depth (max a.depth b.depth)); bare = false })
-unfolding Scannables depth
-choice_fits x p c a b f g h w =
-    let i = free_part false 15 a g in
-    let j = h.shallow lead.Free tt in
-    fits_plain x 13 (choice p c.tree a.tree b.tree) (suc (max c.depth (max a.depth b.depth))) (f.well, g.well, h.well) (omega arith) refl (λ k z. let q = f.shallow k z in omega (arith, i, j, q)) w
-
 chosen_gives : (l : ℕ) → floor l ≡ 12 → Good l → (c : Bool) (i : ℕ) (P : ℕ → Expression → Type 0) → ((x : Expression) → Fits c 13 x → P i x) → Gives c i (level l >>= chosen) P
-unfolding Gives
+unfolding Gives Scannables depth
 chosen_gives l e good c i P h = good c i _ (λ a f.
     let F : Fits c 12 a = subst (λ m. Fits c m a) e f in
-    ((λ p s. ((λ x g. λ q t. ((λ y k. deeper_gives i (choice p a.tree x.tree y.tree) (max a.depth (max x.depth y.depth)) P (λ w. h _ (choice_fits c p a x y F g k w))), (λ t. tt))), (λ t. tt))), h a (fits_looser c 12 13 a (omega arith) F)))
-
-implies_fits : (x : Bool) (p : Place) (a b : Expression) → Fits x 14 a → Fits false 15 b → max a.depth b.depth < deepest → Fits x 15 (record { tree = two p op2.Implies a.tree b.tree; depth = suc (max a.depth b.depth); bare = false })
-unfolding Scannables depth
-implies_fits x p a b f g w =
-    let j = g.shallow lead.Free tt in
-    fits_plain x 15 (two p op2.Implies a.tree b.tree) (suc (max a.depth b.depth)) (f.well, g.well) (omega arith) refl (λ k z. let q = f.shallow k z in omega (arith, j, q)) w
+    ((λ p s. ((λ x g. λ q t. ((λ y k. deeper_gives i (choice p a.tree x.tree y.tree) (max a.depth (max x.depth y.depth)) P (λ w. let m = free_part false 15 x g in let n = k.shallow lead.Free tt in h _ (fits_plain c 13 (choice p a.tree x.tree y.tree) (suc (max a.depth (max x.depth y.depth))) (F.well, g.well, k.well) (omega arith) refl (λ z e. let q = F.shallow z e in omega (arith, m, n, q)) w))), (λ t. tt))), (λ t. tt))), h a (fits_looser c 12 13 a (omega arith) F)))
 
 implied_gives : (l : ℕ) → floor l ≡ 14 → Good l → (c : Bool) (i : ℕ) (P : ℕ → Expression → Type 0) → ((x : Expression) → Fits c 15 x → P i x) → Gives c i (level l >>= implied) P
 unfolding Gives
 implied_gives l e good c i P h = good c i _ (λ a f.
     let F : Fits c 14 a = subst (λ m. Fits c m a) e f in
-    ((λ p s. ((λ x g. deeper_gives i (two p op2.Implies a.tree x.tree) (max a.depth x.depth) P (λ w. h _ (implies_fits c p a x F g w))), (λ t. tt))), h a (fits_looser c 14 15 a (omega arith) F)))
+    ((λ p s. ((λ x g. deeper_gives i (two p op2.Implies a.tree x.tree) (max a.depth x.depth) P (λ w. h _ (joined_fits c 15 14 15 p op2.Implies a x refl refl refl F g w))), (λ t. tt))), h a (fits_looser c 14 15 a (omega arith) F)))
 
 -- operators before an operand
 not_fits : (p : Place) (a : Expression) → Fits false 2 a → a.depth < deepest → Fits false 2 (record { tree = one p op1.Not a.tree; depth = suc a.depth; bare = false })
@@ -158,33 +143,15 @@ unfolding Gives
 not_gives l e good true i P h = ((λ p s. absurd s), good true i P (λ x f. h x (fits_looser true (floor l) 2 x (omega (arith, e)) f)))
 not_gives l e good false i P h = ((λ p s. ((λ x f. deeper_gives i (one p op1.Not x.tree) x.depth P (λ w. h _ (not_fits p x f w))), tt)), good false i P (λ x f. h x (fits_looser false (floor l) 2 x (omega (arith, e)) f)))
 
-neg_fits : (c : Bool) (p : Place) (a : Expression) → Fits false 4 a → a.depth < deepest → Fits c 4 (record { tree = one p op1.Neg a.tree; depth = suc a.depth; bare = false })
-unfolding Scannables depth
-neg_fits c p a f w = let h = f.shallow lead.Minus tt in fits_plain c 4 (one p op1.Neg a.tree) (suc a.depth) f.well (omega arith) refl (λ k e. omega (arith, h)) w
-
 neg_gives : (l : ℕ) → floor l ≡ 3 → Good l → (c : Bool) (i : ℕ) (P : ℕ → Expression → Type 0) → ((x : Expression) → Fits c 4 x → P i x) → Gives c i (may an_expression key.minus (λ p. prefixed p op1.Neg 4) (level l)) P
-unfolding Gives
-neg_gives l e good c i P h = ((λ p s. ((λ x f. deeper_gives i (one p op1.Neg x.tree) x.depth P (λ w. h _ (neg_fits c p x f w))), tt)), good c i P (λ x f. h x (fits_looser c (floor l) 4 x (omega (arith, e)) f)))
+unfolding Gives Scannables depth
+neg_gives l e good c i P h = ((λ p s. ((λ x f. deeper_gives i (one p op1.Neg x.tree) x.depth P (λ w. let d = f.shallow lead.Minus tt in h _ (fits_plain c 4 (one p op1.Neg x.tree) (suc x.depth) f.well (omega arith) refl (λ k e. omega (arith, d)) w))), tt)), good c i P (λ x f. h x (fits_looser c (floor l) 4 x (omega (arith, e)) f)))
 
 -- each level
-at_level : (l m : ℕ) → suc l ≡ m → (P : ℕ → Expression → Type 0) (c : Bool) (i : ℕ) → ((x : Expression) → Fits c (suc l) x → P i x) → (x : Expression) → Fits c m x → P i x
-at_level l m e P c i h x f = h x (subst (λ m. Fits c m x) (sym e) f)
-
 level_from_gives : (l : ℕ) → 1 ≤ l → floor l ≡ l → Good l → (c : Bool) (i : ℕ) (P : ℕ → Expression → Type 0) → ((x : Expression) → Fits c (suc l) x → P i x) → Gives c i (level_from (suc l) (level l)) P
-level_from_gives l some e good c i P h = by_test (suc l == 1) refl (suc l == 2) refl (suc l == 4) refl (suc l == 13) refl (suc l == 15) refl where
-  tight : (m n : ℕ) → (suc l == m) ≡ true → m ≡ suc n → floor l ≡ n
-  tight m n t u = let s = eqb-true (suc l) m t in omega (arith, e, s, u)
-
-  found : (m : ℕ) → (suc l == m) ≡ true → (x : Expression) → Fits c m x → P i x
-  found m t = at_level l m (eqb-true (suc l) m t) P c i h
-
-  by_test : (q : Bool) → (suc l == 1) ≡ q → (r : Bool) → (suc l == 2) ≡ r → (s : Bool) → (suc l == 4) ≡ s → (t : Bool) → (suc l == 13) ≡ t → (u : Bool) → (suc l == 15) ≡ u → Gives c i (cond q (level l >>= selected) (cond r (may an_expression (key.mark marks.Bang) (λ p. prefixed p op1.Not 2) (level l)) (cond s (may an_expression key.minus (λ p. prefixed p op1.Neg 4) (level l)) (cond t (level l >>= chosen) (cond u (level l >>= implied) (level l >>= joined (suc l) (level l))))))) P
-  by_test true q r r' s s' t t' u u' = let z = eqb-true (suc l) 1 q in absurd (omega (arith, some, z))
-  by_test false q true r s s' t t' u u' = not_gives l (tight 2 1 r refl) good c i P (found 2 r)
-  by_test false q false r true s t t' u u' = neg_gives l (tight 4 3 s refl) good c i P (found 4 s)
-  by_test false q false r false s true t u u' = chosen_gives l (tight 13 12 t refl) good c i P (found 13 t)
-  by_test false q false r false s false t true u = implied_gives l (tight 15 14 u refl) good c i P (found 15 u)
-  by_test false q false r false s false t false u = infix_gives l some e good c i P h
+level_from_gives l some e good c i P h = level_by (λ r. Gives c i r P) (suc l) (level l) (λ q. absurd (omega (arith, some, q))) (λ q. not_gives l (omega (arith, e, q)) good c i P (found 2 q)) (λ q. neg_gives l (omega (arith, e, q)) good c i P (found 4 q)) (λ q. chosen_gives l (omega (arith, e, q)) good c i P (found 13 q)) (λ q. implied_gives l (omega (arith, e, q)) good c i P (found 15 q)) (infix_gives l some e good c i P h) where
+  found : (m : ℕ) → suc l ≡ m → (x : Expression) → Fits c m x → P i x
+  found m q x f = h x (subst (λ m. Fits c m x) (sym q) f)
 
 pub level_gives : (l : ℕ) (c : Bool) (i : ℕ) (P : ℕ → Expression → Type 0) → ((x : Expression) → Fits c (floor l) x → P i x) → Gives c i (level l) P
 unfolding level
@@ -287,3 +254,62 @@ given_part (expression l) e = level_gives l false 0 _ (λ x f. (refl, f))
 given_part (formula l) e = absurd e
 given_part (inside o p) e = opener_gives o p
 given_part (bits a p) e = bits_give a p
+
+pub record Gave (i : ℕ) {X : Type 0} (P : ℕ → X → Type 0) (ts rest : List Token) (x : X) : Type 0 where
+  pub left : ℕ
+  pub holds : P left x
+  pub spans : Spans i left ts rest
+  pub scannable : AllScannable rest
+
+fails : {m : Mode} {n : ℕ} {s : Sort} {r : Rule s} {ts rest : List Token} {x : Gift s} → Follows m n s r ts rest x → Fails r → ⊥
+fails (has n s k f t p ts rest x e j) h = fails j (h p)
+fails f h = h
+
+abbrev Cleanly : Bool → List Token → Type 0
+Cleanly c ts = (c ≡ true → begins_with marks.Bang ts ≡ false)
+
+no_true : false ≡ true → ⊥
+no_true e = absurd (cc)
+
+pub not_clean : (ts : List Token) → Cleanly false ts
+not_clean ts e = absurd (no_true e)
+
+-- behind a token
+behind : {i : ℕ} {X : Type 0} {P : ℕ → X → Type 0} {ts us rest : List Token} {x : X} (j : ℕ) → Spans i j ts us → Gave j P us rest x → Gave i P ts rest x
+behind j s g = record { left = g.left; holds = g.holds; spans = λ m. s m ∙ g.spans m; scannable = g.scannable }
+
+-- a part
+opened : {s : Sort} (p : Part s) (i : ℕ) (Q : ℕ → Type 0) (ts rest : List Token) → After (part_role p) i Q → Spans (open_in p) 0 ts rest → (j : ℕ) × Q j × Spans i j ts rest
+opened (formula l) i Q ts rest h s = absurd h
+opened (inside key.round p) zero Q ts rest h s = absurd h
+opened (inside key.round p) (suc i) Q ts rest h s = (i, h, λ m. s (lift i m))
+opened p i Q ts rest h s = (i, h, λ m. s (lift i m))
+
+entered : {s : Sort} (p : Part s) (i : ℕ) (P : ℕ → Gift s → Type 0) (ts rest : List Token) (x : Gift s) → ((y : Gift s) → Given p y → After (part_role p) i (λ j. P j y)) → (Expressive p → Gave (open_in p) (λ j y. (j ≡ 0) × Given p y) ts rest x) → Gave i P ts rest x
+entered (formula l) i P ts rest x h g = absurd (h x tt)
+entered p i P ts rest x h g =
+    let w = g tt in
+    let o = opened p i (λ j. P j x) ts rest (h x w.holds.1) (subst (λ q. Spans (open_in p) q ts rest) w.holds.0 w.spans) in
+    record { left = o.0; holds = o.1; spans = o.2; scannable = w.scannable }
+
+pub gave : {m : Mode} {n : ℕ} {s : Sort} {r : Rule s} {ts rest : List Token} {x : Gift s} → Follows m n s r ts rest x → (c : Bool) (i : ℕ) (P : ℕ → Gift s → Type 0) → AllScannable ts → Cleanly c ts → Gives c i r P → Gave i P ts rest x
+unfolding Gives
+gave (done n s x ts) c i P a b h = record { left = i; holds = h; spans = λ m. refl; scannable = a }
+gave (has n s k f t p ts rest x e j) c i P a b h =
+    let w = seen k c t ts p i (λ j. Gives false j (f p) P) e a.0 b (h p) in
+    behind w.left w.spans (gave j false w.left P a.1 (not_clean ts) w.holds)
+gave (takes n s k f r t p ts rest x e j) c i P a b h =
+    let w = seen k c t ts p i (λ j. Gives false j (f p) P) e a.0 b (h.0 p) in
+    behind w.left w.spans (gave j false w.left P a.1 (not_clean ts) w.holds)
+gave (skips n s k f r ts rest x u j) c i P a b h = gave j c i P a b h.1
+gave (nests n s p r ts rest x j) c i P a b h = entered p i P ts rest x h.0 (λ e. gave j false (open_in p) (λ j y. (j ≡ 0) × Given p y) a (not_clean ts) (given_part p e))
+gave (stays s p r ts rest x j) c i P a b h = absurd (fails j h.1)
+gave (chains n z s r f ts us rest y x j k) c i P a b h =
+    let g = gave j c i (λ j a. Gives false j (f a) P) a b h in
+    behind g.left g.spans (gave k false g.left P g.scannable (not_clean us) g.holds)
+gave (stops n s k f y ts u) c i P a b h = record { left = i; holds = h.2 y h.1; spans = λ m. refl; scannable = a }
+gave (goes_on n s k f y t p ts us rest z x e j l) c i P a b h =
+    let P' : ℕ → Gift s → Type 0 = λ m y. (m ≡ i) × Kept s k h.0 y in
+    let w = seen k false t ts p i (λ j. Gives false j (f y p) P') e a.0 (λ e. absurd (no_true e)) (h.3 y p h.1) in
+    let g = gave j false w.left P' a.1 (not_clean ts) w.holds in
+    behind w.left w.spans (behind i (subst (λ q. Spans w.left q ts us) g.holds.0 g.spans) (gave l false i P g.scannable (not_clean us) (h.0, g.holds.1, h.2, h.3)))

@@ -24,7 +24,7 @@ use Rattle.smv_rules.specs.Sorts.{Gift, Sort, an_expression, some_branches, some
 use Rattle.smv_rules.specs.Rules.{Part, Rule, gives, too_deep, must, may, part, then, again, expression, formula, inside, bits}
 use Rattle.smv_rules.proofs.Firsts.{is_mark_true}
 use Rattle.smv_printing.specs.Printing.{mark_of_two, path_head, right_level, left_level, operator_level}
-use Rattle.smv_printing.specs.Scannables.{OwnName, OwnPath, OwnWord, Scannable, greatest}
+use Rattle.smv_printing.proofs.ScannedTokens.{OwnName, OwnPath, OwnWord, Scannable, greatest}
 use Rattle.smv_printing.proofs.Fits.{AllFit, ArmsFit, Fits}
 
 -- what a token tells where it is seen, and the text begins with no `!` where the flag says so
@@ -195,21 +195,15 @@ mark_role m w e = ap role_of (is_mark_true m w e)
 
 pub primary_seen : (w : Lexeme) (o : Primary) → primary_of w ≡ Some o → role_of w ≡ primary_role o
 primary_seen (lexeme.Mark m) o e = primary_marks m ∙ ap (λ q. role_or (role_of_mark m) primary_role q) e
-primary_seen (lexeme.Name n) o e = ap (λ q. role_or plain primary_role q) e
-primary_seen (lexeme.Number n) o e = ap (λ q. role_or plain primary_role q) e
-primary_seen (lexeme.Word v) o e = ap (λ q. role_or plain primary_role q) e
+primary_seen w o e = ap (λ q. role_or plain primary_role q) e
 
 name_seen : (w : Lexeme) (n : List ℕ) → name_of w ≡ Some n → w ≡ lexeme.Name n
 name_seen (lexeme.Name n) o e = ap lexeme.Name (let s : n ≡ o = cc in s)
-name_seen (lexeme.Mark m) o e = absurd (cc)
-name_seen (lexeme.Number n) o e = absurd (cc)
-name_seen (lexeme.Word v) o e = absurd (cc)
+name_seen w o e = absurd (cc)
 
 number_seen : (w : Lexeme) (n : ℕ) → number_of w ≡ Some n → w ≡ lexeme.Number n
 number_seen (lexeme.Number n) o e = ap lexeme.Number (let s : n ≡ o = cc in s)
-number_seen (lexeme.Mark m) o e = absurd (cc)
-number_seen (lexeme.Name n) o e = absurd (cc)
-number_seen (lexeme.Word v) o e = absurd (cc)
+number_seen w o e = absurd (cc)
 
 pub levels_of : {X : Type 0} (l : ℕ) (q : Option (ℕ × X)) (o : X) → of_level l q ≡ Some o → q ≡ Some (l, o)
 levels_of l None o e = absurd (cc)
@@ -220,23 +214,9 @@ levels_of {X} l (Some i) o e = by_test (i.0 == l) refl e where
 
 operator_seen : (w : Lexeme) (l : ℕ) (o : Op2) → by_mark infix_of (mark_of w) ≡ Some (l, o) → (role_of w ≡ plain) × OwnOperator l o
 operator_seen (lexeme.Mark m) l o e = (infix_marks m ∙ ap (λ q. role_or (role_of_mark m) (λ o. plain) q) e, subst Levelled e (levelled m))
-operator_seen (lexeme.Name n) l o e = absurd (cc)
-operator_seen (lexeme.Number n) l o e = absurd (cc)
-operator_seen (lexeme.Word v) l o e = absurd (cc)
+operator_seen w l o e = absurd (cc)
 
-pub role_seen : (k : Key) (t : Token) (ts : List Token) (p : Payload k) (i : ℕ) (Q : ℕ → Type 0) → sees k t ts ≡ Some p → After (role_by k p) i Q → role t ≡ role_by k p
-unfolding sees
-role_seen (key.mark m) t ts p i Q e h = mark_role m t.lexeme (there (is_mark m t.lexeme) t.place p e)
-role_seen key.name t ts p i Q e h = ap role_of (name_seen t.lexeme p.0 (placed (name_of t.lexeme) t.place p e))
-role_seen key.number t ts p i Q e h = ap role_of (number_seen t.lexeme p e)
-role_seen key.primary t ts p i Q e h = primary_seen t.lexeme p.0 (placed (primary_of t.lexeme) t.place p e)
-role_seen key.minus t ts p i Q e h = mark_role marks.Minus t.lexeme (not_first (begins_range ts) (is_mark marks.Minus t.lexeme) t.place p e)
-role_seen key.further t ts p i Q e h = mark_role marks.Semicolon t.lexeme (not_first (begins_with marks.Esac ts) (is_mark marks.Semicolon t.lexeme) t.place p e)
-role_seen key.closing t ts p i Q e h = mark_role marks.Semicolon t.lexeme (at_first (begins_with marks.Esac ts) (is_mark marks.Semicolon t.lexeme) t.place p e)
-role_seen (key.operator l) t ts p i Q e h = (operator_seen t.lexeme l p.0 (levels_of l (by_mark infix_of (mark_of t.lexeme)) p.0 (placed (of_level l (by_mark infix_of (mark_of t.lexeme))) t.place p e))).0
-role_seen k t ts p i Q e h = absurd h
-
--- what it tells: no name of one's own is the reserved word
+-- no name of one's own is the reserved word
 own_no_self : (n : List ℕ) → OwnName n → bytes_eq n (codes "self") ≡ false
 unfolding word_of words text
 own_no_self n o = by (bytes_eq n (codes "self")) refl where
@@ -259,15 +239,21 @@ own_marks m = tt
 own_primary : (w : Lexeme) (o : Primary) → primary_of w ≡ Some o → Scannable w → OwnPrimary o
 own_primary (lexeme.Mark m) o e s = subst OwnIf e (own_marks m)
 own_primary (lexeme.Name n) o e s = subst OwnIf e (head_scannable n s)
-own_primary (lexeme.Number n) o e s = subst OwnIf e s
-own_primary (lexeme.Word v) o e s = subst OwnIf e s
+own_primary w o e s = subst OwnIf e s
 
-pub saw : (k : Key) (c : Bool) (t : Token) (ts : List Token) (p : Payload k) → sees k t ts ≡ Some p → Scannable t.lexeme → (c ≡ true → is_mark marks.Bang t.lexeme ≡ false) → Saw k c p
+-- what a token that is seen is to a group, and what it tells
+told : (k : Key) (c : Bool) (t : Token) (ts : List Token) (p : Payload k) → sees k t ts ≡ Some p → Scannable t.lexeme → (c ≡ true → is_mark marks.Bang t.lexeme ≡ false) → ((i : ℕ) (Q : ℕ → Type 0) → After (role_by k p) i Q → role t ≡ role_by k p) × Saw k c p
 unfolding sees
-saw (key.mark marks.Bang) true t ts p e s b = let f = there (is_mark marks.Bang t.lexeme) t.place p e in let g = b refl in absurd (cc)
-saw (key.mark m) c t ts p e s b = tt
-saw key.name c t ts p e s b = subst Scannable (name_seen t.lexeme p.0 (placed (name_of t.lexeme) t.place p e)) s
-saw key.number c t ts p e s b = subst Scannable (number_seen t.lexeme p e) s
-saw key.primary c t ts p e s b = own_primary t.lexeme p.0 (placed (primary_of t.lexeme) t.place p e) s
-saw (key.operator l) c t ts p e s b = (operator_seen t.lexeme l p.0 (levels_of l (by_mark infix_of (mark_of t.lexeme)) p.0 (placed (of_level l (by_mark infix_of (mark_of t.lexeme))) t.place p e))).1
-saw k c t ts p e s b = tt
+told (key.mark marks.Bang) true t ts p e s b = let f = there (is_mark marks.Bang t.lexeme) t.place p e in let g = b refl in absurd (cc)
+told (key.mark m) c t ts p e s b = (λ i Q h. mark_role m t.lexeme (there (is_mark m t.lexeme) t.place p e), tt)
+told key.name c t ts p e s b = let n = name_seen t.lexeme p.0 (placed (name_of t.lexeme) t.place p e) in (λ i Q h. ap role_of n, subst Scannable n s)
+told key.number c t ts p e s b = let n = number_seen t.lexeme p e in (λ i Q h. ap role_of n, subst Scannable n s)
+told key.primary c t ts p e s b = (λ i Q h. primary_seen t.lexeme p.0 (placed (primary_of t.lexeme) t.place p e), own_primary t.lexeme p.0 (placed (primary_of t.lexeme) t.place p e) s)
+told key.minus c t ts p e s b = (λ i Q h. mark_role marks.Minus t.lexeme (not_first (begins_range ts) (is_mark marks.Minus t.lexeme) t.place p e), tt)
+told key.further c t ts p e s b = (λ i Q h. mark_role marks.Semicolon t.lexeme (not_first (begins_with marks.Esac ts) (is_mark marks.Semicolon t.lexeme) t.place p e), tt)
+told key.closing c t ts p e s b = (λ i Q h. mark_role marks.Semicolon t.lexeme (at_first (begins_with marks.Esac ts) (is_mark marks.Semicolon t.lexeme) t.place p e), tt)
+told (key.operator l) c t ts p e s b = let o = (operator_seen t.lexeme l p.0 (levels_of l (by_mark infix_of (mark_of t.lexeme)) p.0 (placed (of_level l (by_mark infix_of (mark_of t.lexeme))) t.place p e))) in (λ i Q h. o.0, o.1)
+told k c t ts p e s b = (λ i Q h. absurd h, tt)
+
+pub seen : (k : Key) (c : Bool) (t : Token) (ts : List Token) (p : Payload k) (i : ℕ) (Q : ℕ → Type 0) → sees k t ts ≡ Some p → Scannable t.lexeme → (c ≡ true → is_mark marks.Bang t.lexeme ≡ false) → (Saw k c p → After (role_by k p) i Q) → Stepped i Q t ts
+seen k c t ts p i Q e s b h = let v = told k c t ts p e s b in let g = h v.1 in stepped t ts (role_by k p) (v.0 i Q g) i Q g

@@ -1,146 +1,233 @@
--- What begins the tokens that are printed: no `esac`; behind a `-` no range; in an atom no `!`.
-use Rattle.std.proofs.Common.{◌≡◌, ◌||◌, ℕ, ℤ, pos, negsuc, Bool, true, false, cond, nat_lt, List, [], ◌∷◌, ◌++◌, refl, sym, subst}
-use Rattle.std.specs.Prelude.{codes}
+-- What printed expressions begin with: a token with which operands begin; behind a `-` no range, and a second
+-- `-` only where it is an operator; in an atom no `!`.
+use Rattle.std.proofs.Common.{◌≡◌, ◌≤◌, ◌-◌, ◌||◌, ℕ, ℤ, pos, negsuc, Bool, true, false, cond, nat_eq, nat_lt, List, [], ◌∷◌, ◌++◌, Option, Some, None, refl, sym, ◌∙◌, subst, arith, codes, decimal}
 use Rattle.std.specs.Str.{bytes_eq}
+use Rattle.std.proofs.lemmas.Bool.{ltb-false}
 use Rattle.smv_tree.specs.declared.expr.Op1.TheVariants as op1
 use Rattle.smv_tree.specs.declared.expr.Op2.{Op2}
 use Rattle.smv_tree.specs.declared.expr.Op2.TheVariants as op2
 use Rattle.smv_tree.specs.Trees.{Tree, truth, number, word, name, span, set, cases, choice, one, two, select, next, widen, const, count}
+use Rattle.smv_tree.specs.Word.{Word}
+use Rattle.smv_token.specs.declared.mark.Mark.{Mark}
 use Rattle.smv_token.specs.declared.mark.Mark.TheVariants as marks
 use Rattle.smv_token.specs.declared.token.Token.{Token}
 use Rattle.smv_token.specs.declared.token.Lexeme.{Lexeme}
 use Rattle.smv_token.specs.declared.token.Lexeme.TheVariants as lexeme
+use Rattle.smv_token.specs.Marks.{text}
+use Rattle.smv_token.specs.Numbers.{is_decimal}
+use Rattle.smv_token.specs.Tokens.{begins_name}
 use Rattle.smv_grammar.specs.Forms.{begins_dots, begins_range, is_dots, is_number}
 use Rattle.smv_grammar.specs.IsMark.{is_mark, same_mark}
-use Rattle.smv_rules.specs.Keys.{begins_with}
+use Rattle.smv_rules.specs.Keys.{begins_with, is_operand, primary_by}
 use Rattle.smv_printing.specs.declared.lead.Lead.{Lead}
 use Rattle.smv_printing.specs.declared.lead.Lead.TheVariants as lead
-use Rattle.smv_printing.specs.Printing.{Ink, bare, blank, dotted, level, mark_of_two, misread, path_head, spelled, symbol, token, left_level}
-use Rattle.smv_printing.specs.Scannables.{Scannables}
-use Rattle.smv_printing.proofs.Says.{Lays, NoDots, lays_quiet}
+use Rattle.smv_printing.specs.Printing.{Ink, bare, blank, dotted, integer, is_negation, left_level, level, lexeme_text, mark_of_two, misread, path_head, spelled, symbol, to_right, token, word_head, word_text}
+use Rattle.smv_printing.proofs.ScannedTokens.{Scannable, Scannables, Signed, first_is, greatest}
+use Rattle.smv_printing.proofs.ReadInks.{apart, decimal_writes, first_byte, first_of}
+use Rattle.smv_printing.proofs.Says.{Lays, NoDots, lays_quiet, stands}
 
-abbrev OpensAs : Lead → Lexeme → List Ink → Type 0
-OpensAs lead.Minus (lexeme.Number n) is = NoDots is
-OpensAs lead.Atom w is = (is_mark marks.Bang w ≡ false)
-OpensAs k w is = Unit {0}
+no_true : {b : Bool} → b ≡ false → b ≡ true → ⊥
+no_true e f = absurd (cc)
 
-abbrev pub Opens : Lead → List Ink → Type 0
-Opens k [] = ⊥
-Opens k (blank ∷ is) = ⊥
-Opens k (token w ∷ is) = (is_mark marks.Esac w ≡ false) × OpensAs k w is
+-- The first token of an expression that is no looser than the level, and what is printed behind it.
+pub record Opening (k : Lead) (l : ℕ) (w : Lexeme) (is : List Ink) : Type 0 where
+  pub scannable : Scannable w
+  pub operand : is_operand w ≡ true
+  pub number : k ≡ lead.Minus → is_number w ≡ true → NoDots is
+  pub minus : k ≡ lead.Minus → is_mark marks.Minus w ≡ true → 4 ≤ l
+  pub bang : k ≡ lead.Atom → is_mark marks.Bang w ≡ false
+
+abbrev pub Opens : Lead → ℕ → List Ink → Type 0
+Opens k l [] = ⊥
+Opens k l (blank ∷ is) = ⊥
+Opens k l (token w ∷ is) = Opening k l w is
 
 no_dots_more : (is js : List Ink) → NoDots is → NoDots js → NoDots (is ++ js)
 no_dots_more [] js h g = g
 no_dots_more (blank ∷ is) js h g = no_dots_more is js h g
 no_dots_more (token w ∷ is) js h g = h
 
-pub opens_more : (k : Lead) (is js : List Ink) → Opens k is → NoDots js → Opens k (is ++ js)
-opens_more k [] js h g = absurd h
-opens_more k (blank ∷ is) js h g = absurd h
-opens_more k (token w ∷ is) js h g = (h.0, by k w h.1) where
-  by : (k : Lead) (w : Lexeme) → OpensAs k w is → OpensAs k w (is ++ js)
-  by lead.Minus (lexeme.Number n) h = no_dots_more is js h g
-  by lead.Minus (lexeme.Mark m) h = tt
-  by lead.Minus (lexeme.Name n) h = tt
-  by lead.Minus (lexeme.Word w) h = tt
-  by lead.Atom w h = h
-  by lead.Free w h = tt
+pub opens_more : (k : Lead) (l : ℕ) (is js : List Ink) → Opens k l is → NoDots js → Opens k l (is ++ js)
+opens_more k l [] js h g = absurd h
+opens_more k l (blank ∷ is) js h g = absurd h
+opens_more k l (token w ∷ is) js h g = record { scannable = h.scannable; operand = h.operand; number = λ e f. no_dots_more is js (h.number e f) g; minus = h.minus; bang = h.bang }
 
-opens_plain : (k : Lead) (w : Lexeme) (is : List Ink) → is_mark marks.Esac w ≡ false → is_mark marks.Bang w ≡ false → is_number w ≡ false → Opens k (token w ∷ is)
-opens_plain k w is e b n = (e, by k w b n) where
-  by : (k : Lead) (w : Lexeme) → is_mark marks.Bang w ≡ false → is_number w ≡ false → OpensAs k w is
-  by lead.Minus (lexeme.Number n) b e = absurd (cc)
-  by lead.Minus (lexeme.Mark m) b e = tt
-  by lead.Minus (lexeme.Name n) b e = tt
-  by lead.Minus (lexeme.Word w) b e = tt
-  by lead.Atom w b e = b
-  by lead.Free w b e = tt
+plain : (k : Lead) (l : ℕ) (w : Lexeme) (is : List Ink) → Scannable w → is_operand w ≡ true → is_number w ≡ false → is_mark marks.Minus w ≡ false → is_mark marks.Bang w ≡ false → Opening k l w is
+plain k l w is s o n m b = record { scannable = s; operand = o; number = λ e f. absurd (no_true n f); minus = λ e f. absurd (no_true m f); bang = λ e. b }
 
-opens_number : (k : Lead) (n : ℕ) (is : List Ink) → (k ≡ lead.Minus → NoDots is) → Opens k (token (lexeme.Number n) ∷ is)
-opens_number lead.Free n is h = (refl, tt)
-opens_number lead.Minus n is h = (refl, h refl)
-opens_number lead.Atom n is h = (refl, refl)
+marked : (k : Lead) (l : ℕ) (m : Mark) (is : List Ink) → is_operand (lexeme.Mark m) ≡ true → is_mark marks.Minus (lexeme.Mark m) ≡ false → is_mark marks.Bang (lexeme.Mark m) ≡ false → Opening k l (lexeme.Mark m) is
+marked k l m is o a b = plain k l (lexeme.Mark m) is tt o refl a b
 
-opens_head : (k : Lead) (n : List ℕ) (is : List Ink) → Opens k (token (path_head n) ∷ is)
-unfolding same_mark
-opens_head k n is = by_test (bytes_eq n (codes "self")) where
-  by_test : (b : Bool) → Opens k (token (cond b (lexeme.Mark marks.SelfWord) (lexeme.Name n)) ∷ is)
-  by_test true = opens_plain k (lexeme.Mark marks.SelfWord) is refl refl refl
-  by_test false = opens_plain k (lexeme.Name n) is refl refl refl
+counted : (k : Lead) (l n : ℕ) (is : List Ink) → n ≤ greatest → (k ≡ lead.Minus → NoDots is) → Opening k l (lexeme.Number n) is
+counted k l n is s h = record { scannable = s; operand = refl; number = λ e f. h e; minus = λ e f. absurd (no_true refl f); bang = λ e. refl }
 
-second : (a b : Bool) → (a || b) ≡ false → b ≡ false
-second true b e = absurd (cc)
-second false b e = e
+headed : (k : Lead) (l : ℕ) (n : List ℕ) (is : List Ink) → Scannable (path_head n) → Opening k l (path_head n) is
+unfolding same_mark primary_by
+headed k l n is s = by (bytes_eq n (codes "self")) s where
+  by : (b : Bool) → Scannable (cond b (lexeme.Mark marks.SelfWord) (lexeme.Name n)) → Opening k l (cond b (lexeme.Mark marks.SelfWord) (lexeme.Name n)) is
+  by true s = marked k l marks.SelfWord is refl refl refl
+  by false s = plain k l (lexeme.Name n) is s refl refl refl refl
 
-opens_part : (k : Lead) (place : ℕ) (x : Tree) → (misread k x ≡ false → Opens k (bare x k)) → Opens k (spelled k place x)
-unfolding same_mark
-opens_part k place x h = by_test (nat_lt place (level x) || misread k x) refl where
-  by_test : (b : Bool) → (nat_lt place (level x) || misread k x) ≡ b → Opens k (cond b (symbol marks.OpenRound ∷ (bare x lead.Free ++ symbol marks.CloseRound ∷ [])) (bare x k))
-  by_test true e = opens_plain k (lexeme.Mark marks.OpenRound) _ refl refl refl
-  by_test false e = h (second (nat_lt place (level x)) (misread k x) e)
+ranged : (k : Lead) (l : ℕ) (v : ℤ) (is : List Ink) → Signed v → (k ≡ lead.Minus → ⊥) → Opens k l (integer v ++ is)
+unfolding same_mark primary_by
+ranged k l (pos n) is s h = counted k l n is s (λ e. absurd (h e))
+ranged k l (negsuc n) is s h = record { scannable = tt; operand = refl; number = λ e f. absurd (h e); minus = λ e f. absurd (h e); bang = λ e. refl }
+
+misread_not : (k j : Lead) (x : Tree) → misread k x ≡ false → misread j x ≡ true → k ≡ j → ⊥
+misread_not k j x m t e = no_true (subst (λ k. misread k x ≡ false) e m) t
+
+pub opens_part : (k : Lead) (place l : ℕ) (x : Tree) → (level x ≤ place → misread k x ≡ false → Opens k l (bare x k)) → Opens k l (spelled k place x)
+unfolding same_mark primary_by
+opens_part k place l x h = by (nat_lt place (level x)) (misread k x) refl refl where
+  by : (a b : Bool) → nat_lt place (level x) ≡ a → misread k x ≡ b → Opens k l (cond (a || b) (symbol marks.OpenRound ∷ (bare x lead.Free ++ symbol marks.CloseRound ∷ [])) (bare x k))
+  by true b e m = marked k l marks.OpenRound _ refl refl refl
+  by false true e m = marked k l marks.OpenRound _ refl refl refl
+  by false false e m = h (ltb-false place (level x) e) m
+
+left_less : (l : ℕ) → left_level l ≤ l
+left_less l = by (to_right l) where
+  by : (b : Bool) → cond b (l - 1) l ≤ l
+  by true = omega arith
+  by false = omega arith
 
 no_dots_op : (o : Op2) → is_dots (lexeme.Mark (mark_of_two o)) ≡ false
 no_dots_op op2.Concat = refl
 no_dots_op o = refl
 
-opens_span : (k : Lead) (low : ℤ) (is : List Ink) → (k ≡ lead.Minus → ⊥) → Opens k (Rattle.smv_printing.specs.Printing.integer low ++ is)
-unfolding same_mark
-opens_span k (pos i) is h = opens_number k i is (λ e. absurd (h e))
-opens_span k (negsuc i) is h = opens_plain k (lexeme.Mark marks.Minus) _ refl refl refl
+pub opens : (x : Tree) (k : Lead) (l : ℕ) → Scannables x → level x ≤ l → misread k x ≡ false → Opens k l (bare x k)
+unfolding bare Scannables same_mark primary_by
+opens (truth p true) k l s h m = marked k l marks.True [] refl refl refl
+opens (truth p false) k l s h m = marked k l marks.False [] refl refl refl
+opens (number p n) k l s h m = counted k l n [] s (λ e. tt)
+opens (word p w) k l s h m = plain k l (lexeme.Word w) [] s refl refl refl refl
+opens (name p []) k l s h m = absurd s
+opens (name p (n ∷ ns)) k l s h m = headed k l n (dotted ns) s.0
+opens (span p low high) k l s h m = ranged k l low _ s.0 (misread_not k lead.Minus (span p low high) m refl)
+opens (set p es) k l s h m = marked k l marks.OpenCurly _ refl refl refl
+opens (cases p bs) k l s h m = marked k l marks.Case _ refl refl refl
+opens (choice p c a b) k l s h m = opens_more k l (spelled k 12 c) _ (opens_part k 12 l c (λ i j. opens c k l s.0 (omega (arith, h, i)) j)) refl
+opens (one p op1.Not a) k l s h m = record { scannable = tt; operand = refl; number = λ e f. absurd (no_true refl f); minus = λ e f. absurd (no_true refl f); bang = λ e. absurd (misread_not k lead.Atom (one p op1.Not a) m refl e) }
+opens (one p op1.Neg a) k l s h m = record { scannable = tt; operand = refl; number = λ e f. absurd (no_true refl f); minus = λ e f. h; bang = λ e. refl }
+opens (one p o a) k l s h m = marked k l _ _ refl refl refl
+opens (two p o a b) k l s h m = let q = left_less (level (two p o a b)) in opens_more k l (spelled k (left_level (level (two p o a b))) a) _ (opens_part k (left_level (level (two p o a b))) l a (λ i j. opens a k l s.0 (omega (arith, q, h, i)) j)) (no_dots_op o)
+opens (select p a high low) k l s h m = opens_more k l (spelled k 1 a) _ (opens_part k 1 l a (λ i j. opens a k l s.0 (omega (arith, h, i)) j)) refl
+opens (next p a) k l s h m = marked k l marks.Next _ refl refl refl
+opens (widen p true a n) k l s h m = marked k l marks.Resize _ refl refl refl
+opens (widen p false a n) k l s h m = marked k l marks.Extend _ refl refl refl
+opens (const p true v n) k l s h m = marked k l marks.SwConst _ refl refl refl
+opens (const p false v n) k l s h m = marked k l marks.UwConst _ refl refl refl
+opens (count p es) k l s h m = marked k l marks.Count _ refl refl refl
 
-span_lead : (k : Lead) (p : _) (low high : ℤ) → misread k (span p low high) ≡ false → k ≡ lead.Minus → ⊥
-span_lead lead.Free p low high e i = absurd (cc)
-span_lead lead.Minus p low high e i = absurd (cc)
-span_lead lead.Atom p low high e i = absurd (cc)
+pub opens_in : (x : Tree) (k : Lead) (place : ℕ) → Scannables x → Opens k place (spelled k place x)
+opens_in x k place s = opens_part k place place x (opens x k place s)
 
-opens_not : (k : Lead) (p : _) (a : Tree) (is : List Ink) → misread k (one p op1.Not a) ≡ false → Opens k (symbol marks.Bang ∷ is)
-unfolding same_mark
-opens_not lead.Free p a is e = (refl, tt)
-opens_not lead.Minus p a is e = (refl, tt)
-opens_not lead.Atom p a is e = absurd (cc)
+-- an operand of a `-` that is no negation is tighter than one
+tighter : (x : Tree) → level x ≤ 4 → is_negation x ≡ false → level x ≤ 3
+tighter (choice p c a b) h e = absurd (omega arith)
+tighter (one p op1.Neg a) h e = absurd (cc)
+tighter (one p o a) h e = omega arith
+tighter (two p op2.Concat a b) h e = omega arith
+tighter (two p o a b) h e = absurd (omega arith)
+tighter x h e = omega arith
 
-pub opens : (x : Tree) (k : Lead) → Scannables x → misread k x ≡ false → Opens k (bare x k)
-unfolding bare Scannables same_mark
-opens (truth p true) k s m = opens_plain k (lexeme.Mark marks.True) [] refl refl refl
-opens (truth p false) k s m = opens_plain k (lexeme.Mark marks.False) [] refl refl refl
-opens (number p n) k s m = opens_number k n [] (λ e. tt)
-opens (word p w) k s m = opens_plain k (lexeme.Word w) [] refl refl refl
-opens (name p []) k s m = absurd s
-opens (name p (n ∷ ns)) k s m = opens_head k n (dotted ns)
-opens (span p low high) k s m = opens_span k low _ (span_lead k p low high m)
-opens (set p es) k s m = opens_plain k (lexeme.Mark marks.OpenCurly) _ refl refl refl
-opens (cases p bs) k s m = opens_plain k (lexeme.Mark marks.Case) _ refl refl refl
-opens (choice p c a b) k s m = opens_more k (spelled k 12 c) _ (opens_part k 12 c (opens c k s.0)) refl
-opens (one p op1.Not a) k s m = opens_not k p a _ m
-opens (one p op1.Neg a) k s m = opens_plain k (lexeme.Mark marks.Minus) _ refl refl refl
-opens (one p o a) k s m = opens_plain k _ _ refl refl refl
-opens (two p o a b) k s m = opens_more k (spelled k (left_level (level (two p o a b))) a) _ (opens_part k (left_level (level (two p o a b))) a (opens a k s.0)) (no_dots_op o)
-opens (select p a high low) k s m = opens_more k (spelled k 1 a) _ (opens_part k 1 a (opens a k s.0)) refl
-opens (next p a) k s m = opens_plain k (lexeme.Mark marks.Next) _ refl refl refl
-opens (widen p true a n) k s m = opens_plain k (lexeme.Mark marks.Resize) _ refl refl refl
-opens (widen p false a n) k s m = opens_plain k (lexeme.Mark marks.Extend) _ refl refl refl
-opens (const p true v n) k s m = opens_plain k (lexeme.Mark marks.SwConst) _ refl refl refl
-opens (const p false v n) k s m = opens_plain k (lexeme.Mark marks.UwConst) _ refl refl refl
-opens (count p es) k s m = opens_plain k (lexeme.Mark marks.Count) _ refl refl refl
-
-pub opens_in : (x : Tree) (k : Lead) (place : ℕ) → Scannables x → Opens k (spelled k place x)
-opens_in x k place s = opens_part k place x (opens x k s)
+pub opens_tighter : (x : Tree) → Scannables x → is_negation x ≡ false → Opens lead.Minus 3 (spelled lead.Minus 4 x)
+opens_tighter x s e = opens_part lead.Minus 4 3 x (λ h m. opens x lead.Minus 3 s (tighter x h e) m)
 
 -- the same of the tokens
-pub begins_not : (k : Lead) (is : List Ink) (us rest : List Token) → Opens k is → Lays is us rest → begins_with marks.Esac us ≡ false
-begins_not k [] us rest o l = absurd o
-begins_not k (blank ∷ is) us rest o l = absurd o
-begins_not k (token w ∷ is) us rest o l = subst (λ us. begins_with marks.Esac us ≡ false) (sym l.is) o.0
+no_esac : (w : Lexeme) → is_operand w ≡ true → is_mark marks.Esac w ≡ false
+unfolding same_mark primary_by
+no_esac (lexeme.Mark marks.Esac) e = absurd (cc)
+no_esac w e = refl
 
-pub no_range : (is : List Ink) (us rest : List Token) → Opens lead.Minus is → Lays is us rest → begins_dots rest ≡ false → begins_range us ≡ false
-no_range [] us rest o l q = absurd o
-no_range (blank ∷ is) us rest o l q = absurd o
-no_range (token (lexeme.Number n) ∷ is) us rest o l q = subst (λ us. begins_range us ≡ false) (sym l.is) (lays_quiet is l.others rest l.behind o.1 q)
-no_range (token (lexeme.Mark m) ∷ is) us rest o l q = subst (λ us. begins_range us ≡ false) (sym l.is) refl
-no_range (token (lexeme.Name n) ∷ is) us rest o l q = subst (λ us. begins_range us ≡ false) (sym l.is) refl
-no_range (token (lexeme.Word w) ∷ is) us rest o l q = subst (λ us. begins_range us ≡ false) (sym l.is) refl
+pub begins_not : (k : Lead) (l : ℕ) (is : List Ink) (us rest : List Token) → Opens k l is → Lays is us rest → begins_with marks.Esac us ≡ false
+begins_not k l [] us rest o q = absurd o
+begins_not k l (blank ∷ is) us rest o q = absurd o
+begins_not k l (token w ∷ is) us rest o q = subst (λ us. begins_with marks.Esac us ≡ false) (sym q.is) (no_esac w o.operand)
 
-pub no_bang : (is : List Ink) (us rest : List Token) → Opens lead.Atom is → Lays is us rest → begins_with marks.Bang us ≡ false
-no_bang [] us rest o l = absurd o
-no_bang (blank ∷ is) us rest o l = absurd o
-no_bang (token w ∷ is) us rest o l = subst (λ us. begins_with marks.Bang us ≡ false) (sym l.is) o.1
+pub atom_opens : (l : ℕ) (is : List Ink) (us rest vs : List Token) (t : Token) → Opens lead.Atom l is → Lays is us rest → us ≡ t ∷ vs → (is_operand t.lexeme ≡ true) × (is_mark marks.Bang t.lexeme ≡ false)
+atom_opens l [] us rest vs t o q e = absurd o
+atom_opens l (blank ∷ is) us rest vs t o q e = absurd o
+atom_opens l (token w ∷ is) us rest vs t o q e =
+    let f = sym q.is ∙ e in
+    let g : stands q.place w ≡ t = cc in
+    subst (λ (t : Token). (is_operand t.lexeme ≡ true) × (is_mark marks.Bang t.lexeme ≡ false)) g (o.operand, o.bang refl)
+
+pub no_range : (l : ℕ) (is : List Ink) (us rest : List Token) → Opens lead.Minus l is → Lays is us rest → begins_dots rest ≡ false → begins_range us ≡ false
+no_range l [] us rest o q e = absurd o
+no_range l (blank ∷ is) us rest o q e = absurd o
+no_range l (token w ∷ is) us rest o q e = subst (λ us. begins_range us ≡ false) (sym q.is) (by (is_number w) refl) where
+  by : (b : Bool) → is_number w ≡ b → cond b (begins_dots q.others) false ≡ false
+  by true f = lays_quiet is q.others rest q.behind (o.number refl f) e
+  by false f = refl
+
+-- a byte with which expressions begin
+abbrev pub begins_part : ℕ → Bool
+begins_part b = begins_name b || is_decimal b || nat_eq b 40 || nat_eq b 123 || nat_eq b 33 || nat_eq b 45
+
+abbrev starts : Option ℕ → Bool
+starts None = false
+starts (Some b) = begins_part b
+
+abbrev dashes : Option ℕ → Bool
+dashes None = false
+dashes (Some b) = nat_eq b 45
+
+abbrev pub Begins : Option ℕ → Type 0
+Begins end = (starts end ≡ true)
+
+abbrev pub NoMinus : Option ℕ → Type 0
+NoMinus end = (dashes end ≡ false)
+
+pub first_append : (a b : List Ink) (end : Option ℕ) → first_byte (a ++ b) end ≡ first_byte a (first_byte b end)
+first_append [] b end = refl
+first_append (blank ∷ a) b end = refl
+first_append (token t ∷ a) b end = refl
+
+name_begins : (bs : List ℕ) → first_is begins_name bs ≡ true → Begins (first_of bs) × NoMinus (first_of bs)
+name_begins [] h = absurd (cc)
+name_begins (b ∷ bs) h = (rw h refl, apart begins_name b 45 h refl)
+
+digit_begins : (bs : List ℕ) → first_is is_decimal bs ≡ true → Begins (first_of bs) × NoMinus (first_of bs)
+digit_begins [] h = absurd (cc)
+digit_begins (b ∷ bs) h = (by (begins_name b), apart is_decimal b 45 h refl) where
+  by : (x : Bool) → x || is_decimal b || nat_eq b 40 || nat_eq b 123 || nat_eq b 33 || nat_eq b 45 ≡ true
+  by true = refl
+  by false = rw h refl
+
+pub number_begins : (n : ℕ) → n ≤ greatest → Begins (first_of (decimal n)) × NoMinus (first_of (decimal n))
+number_begins n h = digit_begins (decimal n) (decimal_writes n (omega arith)).first
+
+word_begins : (w : Word) → Begins (first_of (word_text w)) × NoMinus (first_of (word_text w))
+word_begins w = by w.signed where
+  by : (b : Bool) → Begins (first_of (word_head b ++ (decimal w.width ++ (codes "_" ++ decimal w.bits)))) × NoMinus (first_of (word_head b ++ (decimal w.width ++ (codes "_" ++ decimal w.bits))))
+  by true = (refl, refl)
+  by false = (refl, refl)
+
+mark_begins : (m : Mark) → cond (is_operand (lexeme.Mark m)) (starts (first_of (text m))) true ≡ true
+unfolding text same_mark primary_by
+mark_begins marks.Iff = refl
+mark_begins m = refl
+
+mark_dashes : (m : Mark) → cond (is_operand (lexeme.Mark m)) (cond (is_mark marks.Minus (lexeme.Mark m)) false (dashes (first_of (text m)))) false ≡ false
+unfolding text same_mark primary_by
+mark_dashes marks.Iff = refl
+mark_dashes m = refl
+
+operand_begins : (w : Lexeme) → Scannable w → is_operand w ≡ true → Begins (first_of (lexeme_text w)) × (is_mark marks.Minus w ≡ false → NoMinus (first_of (lexeme_text w)))
+operand_begins (lexeme.Mark m) s e = (subst (λ b. cond b (starts (first_of (text m))) true ≡ true) e (mark_begins m), λ f. subst (λ b. cond b false (dashes (first_of (text m))) ≡ false) f (subst (λ b. cond b (cond (is_mark marks.Minus (lexeme.Mark m)) false (dashes (first_of (text m)))) false ≡ false) e (mark_dashes m)))
+operand_begins (lexeme.Name n) s e = let h = name_begins n s.begins in (h.0, λ f. h.1)
+operand_begins (lexeme.Number n) s e = let h = number_begins n s in (h.0, λ f. h.1)
+operand_begins (lexeme.Word w) s e = let h = word_begins w in (h.0, λ f. h.1)
+
+pub opened_begins : (k : Lead) (l : ℕ) (is : List Ink) (end : Option ℕ) → Opens k l is → Begins (first_byte is end)
+opened_begins k l [] end o = absurd o
+opened_begins k l (blank ∷ is) end o = absurd o
+opened_begins k l (token w ∷ is) end o = (operand_begins w o.scannable o.operand).0
+
+pub no_minus : (is : List Ink) (end : Option ℕ) → Opens lead.Minus 3 is → NoMinus (first_byte is end)
+no_minus [] end o = absurd o
+no_minus (blank ∷ is) end o = absurd o
+no_minus (token w ∷ is) end o = (operand_begins w o.scannable o.operand).1 (by (is_mark marks.Minus w) refl) where
+  by : (b : Bool) → is_mark marks.Minus w ≡ b → b ≡ false
+  by true e = let h = o.minus refl e in absurd (omega (arith, h))
+  by false e = refl

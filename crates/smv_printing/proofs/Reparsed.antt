@@ -7,25 +7,16 @@ use Rattle.smv_rules.specs.Expressions.{expr}
 use Rattle.smv_rules.specs.Sorts.{Expression, Formula}
 use Rattle.smv_rules.specs.Texts.{SpellsBy}
 use Rattle.smv_rules.specs.PartTexts.{SpellsExpr, SpellsFormulaText, formula}
-use Rattle.smv_printing.specs.Alike.{Alike, AlikeClaims, Reparsed, ReparsedFormula}
+use Rattle.smv_printing.specs.Alike.{Reparsed, ReparsedFormula}
 use Rattle.smv_printing.specs.declared.lead.Lead.TheVariants as lead
 use Rattle.smv_printing.specs.Printing.{bare, claim_inks, claim_printed, printed}
-use Rattle.smv_printing.proofs.Says.{lays}
-use Rattle.smv_printing.proofs.SaysLevels.{loosely}
-use Rattle.smv_printing.proofs.RespelledTrees.{respelled}
+use Rattle.smv_printing.proofs.Says.{lays, loosely}
+use Rattle.smv_printing.proofs.Respelled.{respelled}
 use Rattle.smv_printing.proofs.Fits.{Fits, free_part}
-use Rattle.smv_printing.proofs.GivenParts.{level_gives}
-use Rattle.smv_printing.proofs.Gave.{gave, not_clean}
-use Rattle.smv_printing.proofs.ClaimsFit.{claim_depth, placed_most}
-use Rattle.smv_printing.proofs.ClaimsGiven.{claim_gave}
+use Rattle.smv_printing.proofs.GivenParts.{level_gives, gave, not_clean}
+use Rattle.smv_printing.proofs.ClaimsGiven.{claim_depth, placed_most, claim_gave}
 use Rattle.smv_printing.proofs.ClaimsRespelled.{formula_again as said_again}
-use Rattle.smv_printing.proofs.PrintedTexts.{claim_scanned, printed_scanned, text_scannable}
-
-said_expression : (x : Tree) (y : Expression) → SpellsBy expr (printed x) y → Alike x y.tree → Reparsed x
-said_expression x y s a = record { tree = y.tree; spelled = record { given = y; spelled = s; is = refl }; alike = a }
-
-said_formula : (c : Claim) (y : Formula) → SpellsBy formula (claim_printed c) y → AlikeClaims c y.claim → ReparsedFormula c
-said_formula c y s a = record { claim = y.claim; spelled = record { given = y; spelled = s; is = refl }; alike = a }
+use Rattle.smv_printing.proofs.PartedInks.{claim_scanned, printed_scanned, text_scannable}
 
 by_expression : (bytes : List ℕ) (x : Expression) → SpellsBy expr bytes x → Reparsed x.tree
 by_expression bytes x s =
@@ -37,7 +28,8 @@ by_expression bytes x s =
     let small = f.within in
     let back = printed_scanned x.tree f.well in
     let y = (loosely x.tree (respelled x.tree f.well) deepest (omega (arith, d, small)) (omega (arith, d, small))).along back.tokens [] (lays (bare x.tree lead.Free) back.tokens back.laid) refl (text_scannable (printed x.tree) back.tokens back.scanned) in
-    said_expression x.tree y.given (record { tokens = back.tokens; scanned = back.scanned; spelled = y.follows }) y.holds.alike
+    let w : SpellsBy expr (printed x.tree) y.given = record { tokens = back.tokens; scanned = back.scanned; spelled = y.follows } in
+    record { tree = y.given.tree; spelled = record { given = y.given; spelled = w; is = refl }; alike = y.holds.alike }
 
 by_formula : (bytes : List ℕ) (x : Formula) → SpellsBy formula bytes x → ReparsedFormula x.claim
 by_formula bytes x s =
@@ -49,7 +41,8 @@ by_formula bytes x s =
     let d = (placed_most 6 x.claim (claim_depth x.claim)).1 in
     let back = claim_scanned x.claim f.well in
     let y = (said_again x.claim f.well f.brackets (omega (arith, d, e, small))).along back.tokens [] (lays (claim_inks x.claim) back.tokens back.laid) refl (text_scannable (claim_printed x.claim) back.tokens back.scanned) in
-    said_formula x.claim y.given (record { tokens = back.tokens; scanned = back.scanned; spelled = y.follows }) y.holds.alike
+    let w : SpellsBy formula (claim_printed x.claim) y.given = record { tokens = back.tokens; scanned = back.scanned; spelled = y.follows } in
+    record { claim = y.given.claim; spelled = record { given = y.given; spelled = w; is = refl }; alike = y.holds.alike }
 
 pub expression_reparsed : (bytes : List ℕ) (x : Tree) → SpellsExpr bytes x → Reparsed x
 expression_reparsed bytes x s = subst Reparsed s.is (by_expression bytes s.given s.spelled)

@@ -1,6 +1,17 @@
--- The lexemes of scanned texts.
-use Rattle.std.proofs.Common.{◌≡◌, ◌≤◌, ◌-◌, ◌+◌, ◌^◌, if◌then◌else◌, ℕ, zero, suc, Bool, true, false, cond, nat_eq, nat_le, ◌==◌, List, [], ◌∷◌, ◌++◌, length, take, drop, Option, Some, None, Result, Ok, Err, refl, subst, arith, codes}
+-- The lexemes that texts have, the trees and formulas that texts can spell, and that a text's tokens are such.
+use Rattle.std.specs.Prelude.{◌≡◌, ◌<◌, ◌≤◌, ◌^◌, ℕ, suc, ℤ, pos, negsuc, Bool, true, false, List, [], ◌∷◌, None, length}
 use Rattle.std.specs.List.{list_all, prefix_len, starts_with}
+use Rattle.smv_tree.specs.Models.{Claim, atom, no, after, always, some_time, both}
+use Rattle.smv_tree.specs.Trees.{Tree, Trees, Arms, truth, number, word, name, span, set, cases, choice, one, two, select, next, widen, const, count, no_trees, tree, no_arms, arm}
+use Rattle.smv_tree.specs.Word.{Word}
+use Rattle.smv_token.specs.declared.token.Lexeme.{Lexeme}
+use Rattle.smv_token.specs.declared.token.Lexeme.TheVariants as lexeme
+use Rattle.smv_token.specs.declared.token.Token.{Token}
+use Rattle.smv_token.specs.LeftOut.{left_out}
+use Rattle.smv_token.specs.Marks.{word_of, symbol_at}
+use Rattle.smv_printing.specs.Printing.{path_head}
+use Rattle.smv_token.specs.Tokens.{begins_name, continues_name, Scanned, after as place_after, digit_piece, digits_at, goes_on, is_blank, is_in_line, joined, kept_or_left, line_at, number_at, number_within, piece_at, run_kind, scanned, start, symbol_or_none, token_of, tokens_from, with_len, word_at, word_of_width, word_or_number, word_within}
+use Rattle.std.proofs.Common.{◌-◌, ◌+◌, if◌then◌else◌, zero, cond, nat_eq, nat_le, ◌==◌, ◌++◌, take, drop, Option, Some, Result, Ok, Err, refl, subst, arith, codes}
 use Rattle.std.proofs.lemmas.Bool.{leb-true}
 use Rattle.std.proofs.Math.Nat.{one-le-pow}
 use Rattle.smv_tree.specs.declared.place.Place.{Place}
@@ -12,12 +23,107 @@ use Rattle.smv_token.specs.declared.token.Flaw.{Flaw}
 use Rattle.smv_token.specs.declared.token.Flaw.TheVariants as flaw
 use Rattle.smv_token.specs.declared.token.Piece.{Piece}
 use Rattle.smv_token.specs.declared.token.Piece.TheVariants as piece
-use Rattle.smv_token.specs.declared.token.Token.{Token}
-use Rattle.smv_token.specs.LeftOut.{left_out}
-use Rattle.smv_token.specs.Marks.{symbol_at, word_of}
 use Rattle.smv_token.specs.Numbers.{at_most, is_decimal, is_digit_in, radix_of, value_after, width_of, word_head}
-use Rattle.smv_printing.specs.Scannables.{AllScannable, OwnName, OwnWord, first_is, greatest}
-use Rattle.smv_token.specs.Tokens.{Scanned, after, begins_name, continues_name, digit_piece, digits_at, goes_on, is_blank, is_in_line, joined, kept_or_left, line_at, number_at, number_within, piece_at, run_kind, scanned, start, symbol_or_none, token_of, tokens_from, with_len, word_at, word_of_width, word_or_number, word_within}
+
+-- the test holds of the first byte
+abbrev pub first_is : (ℕ → Bool) → List ℕ → Bool
+first_is p [] = false
+first_is p (b ∷ bs) = p b
+
+-- A name: 1 to 255 bytes, all of them as names begin and go on, and no word of the language.
+pub record OwnName (n : List ℕ) : Type 0 where
+  pub begins : first_is begins_name n ≡ true
+  pub continues : list_all continues_name n ≡ true
+  pub short : length n ≤ 255
+  pub unreserved : word_of n ≡ None
+  pub kept : left_out n ≡ None
+
+-- A word constant: 1 to 128 bits, and none above them.
+pub record OwnWord (w : Word) : Type 0 where
+  pub some : 1 ≤ w.width
+  pub narrow : w.width ≤ 128
+  pub fits : w.bits < 2 ^ w.width
+
+-- the greatest number that a token has
+abbrev pub greatest : ℕ
+greatest = 9223372036854775807
+
+-- some text has this lexeme
+abbrev pub Scannable : Lexeme → Type 0
+Scannable (lexeme.Mark m) = Unit {0}
+Scannable (lexeme.Name n) = OwnName n
+Scannable (lexeme.Number n) = n ≤ greatest
+Scannable (lexeme.Word w) = OwnWord w
+
+-- the greatest width, and the greatest place of a bit
+abbrev pub widest : ℕ
+widest = 4294967295
+
+-- a number with a sign or not
+abbrev pub Signed : ℤ → Type 0
+Signed (pos n) = n ≤ greatest
+Signed (negsuc n) = suc n ≤ greatest
+
+-- names behind dots
+abbrev pub OwnNames : List (List ℕ) → Type 0
+OwnNames [] = Unit {0}
+OwnNames (n ∷ ns) = OwnName n × OwnNames ns
+
+-- a path begins with a name or `self`
+abbrev pub OwnPath : List (List ℕ) → Type 0
+OwnPath [] = ⊥
+OwnPath (n ∷ ns) = Scannable (path_head n) × OwnNames ns
+
+abbrev pub SomeTrees : Trees → Type 0
+SomeTrees no_trees = ⊥
+SomeTrees (tree x xs) = Unit {0}
+
+abbrev pub SomeArms : Arms → Type 0
+SomeArms no_arms = ⊥
+SomeArms (arm c v bs) = Unit {0}
+
+unfoldable mutual
+  -- each name, number and word of an expression is that of a token, and no list of parts is empty
+  pub Scannables : Tree → Type 0
+  Scannables (truth p b) = Unit {0}
+  Scannables (number p n) = n ≤ greatest
+  Scannables (word p w) = OwnWord w
+  Scannables (name p ns) = OwnPath ns
+  Scannables (span p low high) = Signed low × Signed high
+  Scannables (set p es) = SomeTrees es × EachScannable es
+  Scannables (cases p bs) = SomeArms bs × ArmsScannable bs
+  Scannables (choice p c a b) = Scannables c × Scannables a × Scannables b
+  Scannables (one p o a) = Scannables a
+  Scannables (two p o a b) = Scannables a × Scannables b
+  Scannables (select p a high low) = Scannables a × (high ≤ widest) × (low ≤ widest)
+  Scannables (next p a) = Scannables a
+  Scannables (widen p resize a n) = Scannables a × (n ≤ widest)
+  Scannables (const p signed v n) = Signed v × (n ≤ widest)
+  Scannables (count p es) = SomeTrees es × EachScannable es
+
+  -- that of each expression
+  pub EachScannable : Trees → Type 0
+  EachScannable no_trees = Unit {0}
+  EachScannable (tree x xs) = Scannables x × EachScannable xs
+
+  -- that of each branch
+  pub ArmsScannable : Arms → Type 0
+  ArmsScannable no_arms = Unit {0}
+  ArmsScannable (arm c v bs) = Scannables c × Scannables v × ArmsScannable bs
+
+-- that of each atom of a formula
+unfoldable pub ClaimScannable : Claim → Type 0
+ClaimScannable (atom x) = Scannables x
+ClaimScannable (no a) = ClaimScannable a
+ClaimScannable (after a) = ClaimScannable a
+ClaimScannable (always a) = ClaimScannable a
+ClaimScannable (some_time a) = ClaimScannable a
+ClaimScannable (both o a b) = ClaimScannable a × ClaimScannable b
+
+-- the lexeme of each token is one that texts have
+abbrev pub AllScannable : List Token → Type 0
+AllScannable [] = Unit {0}
+AllScannable (t ∷ ts) = Scannable t.lexeme × AllScannable ts
 
 -- what is known of a piece at the front of a text
 abbrev Fitting : List ℕ → ℕ × Piece → Type 0
@@ -83,9 +189,9 @@ width_narrow base.Hex [] ds = at_most_narrow _
 width_narrow b (w ∷ ws) ds = at_most_narrow _
 
 bits_good : (bs : List ℕ) (s : Bool) (len width v : ℕ) → 1 ≤ width → width ≤ 128 → Good bs (with_len len (word_within s width (at_most (2 ^ width - 1) v)))
-bits_good bs s len width v one small =
+bits_good bs s len width v least small =
     let p = one-le-pow width 2 (omega arith) in
-    by_test (λ o. Good bs (with_len len (word_within s width o))) (nat_le v (2 ^ width - 1)) (Some v) None (λ l. let k = leb-true v (2 ^ width - 1) l in record { some = one; narrow = small; fits = omega (arith, k, p) }) (λ l. tt)
+    by_test (λ o. Good bs (with_len len (word_within s width o))) (nat_le v (2 ^ width - 1)) (Some v) None (λ l. let k = leb-true v (2 ^ width - 1) l in record { some = least; narrow = small; fits = omega (arith, k, p) }) (λ l. tt)
 
 width_good : (bs : List ℕ) (s : Bool) (b : Base) (len : ℕ) (ds : List ℕ) (o : Option ℕ) → Narrow o → Good bs (with_len len (word_of_width s b ds o))
 width_good bs s b len ds None n = tt
@@ -159,8 +265,8 @@ joined_good p bs more (Err f) g h = λ e. absurd (cc)
 tokens_good : (p : Place) (n : ℕ) (bs : List ℕ) → WholeGood (tokens_from p n bs)
 unfolding WholeGood tokens_from
 tokens_good p n [] = λ e. tt
-tokens_good p (suc n) (b ∷ bs) = tokens_good (after p b) n bs
-tokens_good p zero (b ∷ bs) = joined_good p (b ∷ bs) (λ n. tokens_from (after p b) n bs) (piece_at (b ∷ bs)) (piece_good (b ∷ bs)) (λ n. tokens_good (after p b) n bs)
+tokens_good p (suc n) (b ∷ bs) = tokens_good (place_after p b) n bs
+tokens_good p zero (b ∷ bs) = joined_good p (b ∷ bs) (λ n. tokens_from (place_after p b) n bs) (piece_at (b ∷ bs)) (piece_good (b ∷ bs)) (λ n. tokens_good (place_after p b) n bs)
 
 -- the lexemes of a text that is all tokens are those that texts have
 pub scanned_scannable : (bytes : List ℕ) → (scanned bytes).stop ≡ None → AllScannable (scanned bytes).tokens

@@ -1,12 +1,10 @@
--- Trees that agree, places aside, and the tokens that are printed.
-use Rattle.std.specs.Prelude.{◌≡◌, List, [], ◌∷◌, map}
+-- Trees that agree, places aside.
+use Rattle.std.specs.Prelude.{◌≡◌}
 use Rattle.smv_tree.specs.declared.place.Place.{Place}
 use Rattle.smv_tree.specs.Models.{Claim, atom, no, after, always, some_time, both}
 use Rattle.smv_tree.specs.Trees.{Tree, Trees, Arms, truth, number, word, name, span, set, cases, choice, one, two, select, next, widen, const, count, no_trees, tree, no_arms, arm}
-use Rattle.smv_token.specs.declared.token.Token.{Token}
-use Rattle.smv_token.specs.declared.token.Lexeme.{Lexeme}
 use Rattle.smv_rules.specs.PartTexts.{SpellsExpr, SpellsFormulaText}
-use Rattle.smv_printing.specs.Printing.{Ink, blank, claim_printed, printed, token}
+use Rattle.smv_printing.specs.Printing.{claim_printed, printed}
 
 -- the place that stands for each place
 abbrev pub nowhere : Place
@@ -55,19 +53,6 @@ claim_unplaced (both o a b) = both o (claim_unplaced a) (claim_unplaced b)
 -- the formulas agree, places aside
 abbrev pub AlikeClaims : Claim → Claim → Type 0
 AlikeClaims c d = (claim_unplaced c ≡ claim_unplaced d)
-
-abbrev pub lexemes : List Token → List Lexeme
-lexemes ts = map (λ t. t.lexeme) ts
-
--- what is printed, without its blanks
-abbrev pub inked : List Ink → List Lexeme
-inked [] = []
-inked (blank ∷ is) = inked is
-inked (token l ∷ is) = l ∷ inked is
-
--- the tokens, wherever they stand, are what is printed
-abbrev pub Laid : List Token → List Ink → Type 0
-Laid ts is = (lexemes ts ≡ inked is)
 
 -- what is printed of the expression is a text that spells it, places aside
 pub record Reparsed (x : Tree) : Type 0 where

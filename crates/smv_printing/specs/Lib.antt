@@ -1,4 +1,2 @@
 pub mod Printing
 pub mod Alike
-pub mod Scannables
-pub mod Beside
