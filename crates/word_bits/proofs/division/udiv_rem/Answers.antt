@@ -2,7 +2,7 @@ use Rattle.std.proofs.Common.{◌≡◌, ◌+◌, ◌*◌, ◌-◌, ◌/◌, ◌
 use Rattle.std.proofs.lemmas.List.{length-append, drop_all}
 use Rattle.std.proofs.lemmas.Nat.{div-mul-add, mod-mul-add}
 use Rattle.gates.specs.Literal.{always, span}
-use Rattle.gates.proofs.Growth.{Grows-trans, AddsConjunctions-trans}
+use Rattle.gates.proofs.Growth.{Grows-refl, Grows-trans, AddsConjunctions-refl, AddsConjunctions-trans}
 use Rattle.gates.proofs.Meaning.{IsValuation-Grows}
 use Rattle.word_bits.specs.Words.{unsigned}
 use Rattle.word_bits.proofs.Circuits.{grown}
@@ -38,8 +38,8 @@ loop-i-init c =
       below = λ values v positive. subst (λ l. unsigned values l < unsigned values c.args.b.now) (sym c.new-remainder.ensures) positive;
       quotient_belongs = omega (arith, ap span c.new-quotient.ensures);
       remainder_belongs = omega (arith, ap span c.new-remainder.ensures);
-      grows = Grows-trans c.loop-i.invariant.grows c.in_ok-digit.ensures.grows;
-      conjunctions = AddsConjunctions-trans c.loop-i.invariant.conjunctions c.in_ok-digit.ensures.conjunctions;
+      grows = Grows-refl _;
+      conjunctions = AddsConjunctions-refl _;
     }
 
 pub loop-i-preserved : goal.loop-i-preserved

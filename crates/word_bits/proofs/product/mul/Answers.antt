@@ -7,7 +7,7 @@ use Rattle.gates.proofs.Growth.{AddsConjunctions-trans, Grows-refl, AddsConjunct
 use Rattle.gates.proofs.Meaning.{IsValuation-Grows}
 use Rattle.word_bits.specs.Number.{digit}
 use Rattle.word_bits.specs.Words.{unsigned}
-use Rattle.word_bits.proofs.Circuits.{grown, span-replicate}
+use Rattle.word_bits.proofs.Circuits.{span-pos, grown, span-replicate}
 use Rattle.word_bits.proofs.Numbers.{unsigned-zeros, unsigned-more}
 use Rattle.word_bits.proofs.Products.{mod_row, zero_product}
 use Rattle.word_bits.proofs.product.mul.Goals as goal
@@ -28,7 +28,7 @@ pub loop-i-init : goal.loop-i-init
 loop-i-init c = record {
   width = ap length c.in_ok-product.ensures ∙ length-replicate _ _ ∙ c.len.ensures.count;
   spells = λ values v. zero_product (unsigned values c.args.a.now) (2 ^ length c.args.a.now) _ (pow_pos (length c.args.a.now)) (ap (unsigned values) c.in_ok-product.ensures ∙ unsigned-zeros v _);
-  belongs = omega (arith, ap span c.in_ok-product.ensures, span-replicate c.len.result (negated always));
+  belongs = omega (arith, ap span c.in_ok-product.ensures, span-replicate c.len.result (negated always), span-pos c.args.a.now c.requires.bits);
   grows = Grows-refl _;
   conjunctions = AddsConjunctions-refl _;
 }
