@@ -187,3 +187,17 @@ chosen_more values a b out i c x y bit in_a in_b at_a at_b is before =
     by : (c : Bool) → cond c (values_of values (take i a)) (values_of values (take i b)) ++ cond c (value_of values x) (value_of values y) ∷ [] ≡ cond c (values_of values (take (i + 1) a)) (values_of values (take (i + 1) b))
     by true = sym (values_of-more values a i x in_a at_a)
     by false = sym (values_of-more values b i y in_b at_b)
+
+-- a choice of one list, and of numbers
+pub chosen_same : (c : Bool) (bs : List Bool) → bs ≡ cond c bs bs
+chosen_same true bs = refl
+chosen_same false bs = refl
+
+pub number_chosen : (c : Bool) (xs ys : List Bool) → number (cond c xs ys) ≡ cond c (number xs) (number ys)
+number_chosen true xs ys = refl
+number_chosen false xs ys = refl
+
+-- the carry before the first bit
+pub carry_none : (b : Bool) → b ≡ leb (2 ^ 0) (0 + 0 + digit b)
+carry_none true = refl
+carry_none false = refl

@@ -1,8 +1,27 @@
 use Rattle.std.proofs.Common.{◌&&◌, not, ◌∙◌}
 use Rattle.gates.specs.Valuation.{value_of}
+use Rattle.gates.proofs.Growth.{AddsConjunctions-trans}
 use Rattle.gates.proofs.Meaning.{IsValuation-Grows}
-use Rattle.word_bits.proofs.Circuits.{xor-gates}
+use Rattle.word_bits.proofs.Circuits.{xor-gates, grown}
 use Rattle.word_bits.proofs.bit.differ.Goals as goal
+
+pub returns-in_err-neither-clause-conjunctions : goal.returns-in_err-neither-clause-conjunctions
+returns-in_err-neither-clause-conjunctions c = AddsConjunctions-trans c.in_ok-both.ensures.conjunctions c.in_err-neither.ensures.conjunctions
+
+pub returns-in_err-neither-clause-grows : goal.returns-in_err-neither-clause-grows
+returns-in_err-neither-clause-grows c = grown (returns-in_err-neither-clause-conjunctions c)
+
+pub returns-in_err-differ-clause-conjunctions : goal.returns-in_err-differ-clause-conjunctions
+returns-in_err-differ-clause-conjunctions c = AddsConjunctions-trans c.in_ok-both.ensures.conjunctions (AddsConjunctions-trans c.in_ok-neither.ensures.conjunctions c.in_err-differ.ensures.conjunctions)
+
+pub returns-in_err-differ-clause-grows : goal.returns-in_err-differ-clause-grows
+returns-in_err-differ-clause-grows c = grown (returns-in_err-differ-clause-conjunctions c)
+
+pub returns-clause-conjunctions : goal.returns-clause-conjunctions
+returns-clause-conjunctions c = AddsConjunctions-trans c.in_ok-both.ensures.conjunctions (AddsConjunctions-trans c.in_ok-neither.ensures.conjunctions c.in_ok-differ.ensures.conjunctions)
+
+pub returns-clause-grows : goal.returns-clause-grows
+returns-clause-grows c = grown (returns-clause-conjunctions c)
 
 pub returns-clause-meaning : goal.returns-clause-meaning
 returns-clause-meaning c values v =

@@ -1,7 +1,20 @@
 use Rattle.std.proofs.Common.{◌∙◌, ◌-◌, ap, get_or}
 use Rattle.gates.specs.Literal.{always}
+use Rattle.gates.proofs.Growth.{Grows-refl, AddsConjunctions-refl}
 use Rattle.word_bits.proofs.Signs.{signed_order}
 use Rattle.word_bits.proofs.compare.slt.Goals as goal
+
+pub returns-in_err-first-clause-grows : goal.returns-in_err-first-clause-grows
+returns-in_err-first-clause-grows c = Grows-refl _
+
+pub returns-in_err-first-clause-conjunctions : goal.returns-in_err-first-clause-conjunctions
+returns-in_err-first-clause-conjunctions c = AddsConjunctions-refl _
+
+pub returns-in_err-second-clause-grows : goal.returns-in_err-second-clause-grows
+returns-in_err-second-clause-grows c = Grows-refl _
+
+pub returns-in_err-second-clause-conjunctions : goal.returns-in_err-second-clause-conjunctions
+returns-in_err-second-clause-conjunctions c = AddsConjunctions-refl _
 
 pub returns-clause-meaning : goal.returns-clause-meaning
 returns-clause-meaning c values v =

@@ -1,9 +1,16 @@
 use Rattle.std.proofs.Common.{◌≡◌, ◌+◌, ◌^◌, ◌<◌, not, leb, length, ◌∙◌, ap, subst, sym}
+use Rattle.gates.proofs.Growth.{Grows-refl, AddsConjunctions-refl}
 use Rattle.gates.proofs.Meaning.{value_of-constant}
 use Rattle.word_bits.specs.Number.{digit}
 use Rattle.word_bits.specs.Words.{unsigned}
 use Rattle.word_bits.proofs.Numbers.{carry_tells, unsigned-below}
 use Rattle.word_bits.proofs.compare.ult.Goals as goal
+
+pub returns-in_err-other-clause-grows : goal.returns-in_err-other-clause-grows
+returns-in_err-other-clause-grows c = Grows-refl _
+
+pub returns-in_err-other-clause-conjunctions : goal.returns-in_err-other-clause-conjunctions
+returns-in_err-other-clause-conjunctions c = AddsConjunctions-refl _
 
 pub returns-clause-meaning : goal.returns-clause-meaning
 returns-clause-meaning c values v =

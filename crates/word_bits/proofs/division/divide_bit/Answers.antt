@@ -1,8 +1,58 @@
 use Rattle.std.proofs.Common.{take, drop, ap, ◌∙◌}
 use Rattle.gates.specs.Valuation.{value_of}
+use Rattle.gates.proofs.Growth.{AddsConjunctions-trans, Grows-refl, AddsConjunctions-refl}
 use Rattle.gates.proofs.Meaning.{IsValuation-Grows}
+use Rattle.word_bits.proofs.Circuits.{grown}
 use Rattle.word_bits.proofs.Products.{divided}
 use Rattle.word_bits.proofs.division.divide_bit.Goals as goal
+
+pub returns-in_err-lowest-clause-grows : goal.returns-in_err-lowest-clause-grows
+returns-in_err-lowest-clause-grows c = Grows-refl _
+
+pub returns-in_err-lowest-clause-conjunctions : goal.returns-in_err-lowest-clause-conjunctions
+returns-in_err-lowest-clause-conjunctions c = AddsConjunctions-refl _
+
+pub returns-in_err-shifted-clause-grows : goal.returns-in_err-shifted-clause-grows
+returns-in_err-shifted-clause-grows c = Grows-refl _
+
+pub returns-in_err-shifted-clause-conjunctions : goal.returns-in_err-shifted-clause-conjunctions
+returns-in_err-shifted-clause-conjunctions c = AddsConjunctions-refl _
+
+pub returns-in_err-low-clause-grows : goal.returns-in_err-low-clause-grows
+returns-in_err-low-clause-grows c = Grows-refl _
+
+pub returns-in_err-low-clause-conjunctions : goal.returns-in_err-low-clause-conjunctions
+returns-in_err-low-clause-conjunctions c = AddsConjunctions-refl _
+
+pub returns-in_err-high-clause-grows : goal.returns-in_err-high-clause-grows
+returns-in_err-high-clause-grows c = Grows-refl _
+
+pub returns-in_err-high-clause-conjunctions : goal.returns-in_err-high-clause-conjunctions
+returns-in_err-high-clause-conjunctions c = AddsConjunctions-refl _
+
+pub returns-in_err-small-clause-conjunctions : goal.returns-in_err-small-clause-conjunctions
+returns-in_err-small-clause-conjunctions c = AddsConjunctions-trans c.in_ok-difference.ensures.conjunctions c.in_err-small.ensures.conjunctions
+
+pub returns-in_err-small-clause-grows : goal.returns-in_err-small-clause-grows
+returns-in_err-small-clause-grows c = grown (returns-in_err-small-clause-conjunctions c)
+
+pub returns-in_err-digit-clause-conjunctions : goal.returns-in_err-digit-clause-conjunctions
+returns-in_err-digit-clause-conjunctions c = AddsConjunctions-trans c.in_ok-difference.ensures.conjunctions (AddsConjunctions-trans c.in_ok-small.ensures.conjunctions c.in_err-digit.ensures.conjunctions)
+
+pub returns-in_err-digit-clause-grows : goal.returns-in_err-digit-clause-grows
+returns-in_err-digit-clause-grows c = grown (returns-in_err-digit-clause-conjunctions c)
+
+pub returns-in_err-rest-clause-conjunctions : goal.returns-in_err-rest-clause-conjunctions
+returns-in_err-rest-clause-conjunctions c = AddsConjunctions-trans c.in_ok-difference.ensures.conjunctions (AddsConjunctions-trans c.in_ok-small.ensures.conjunctions (AddsConjunctions-trans c.in_ok-digit.ensures.conjunctions c.in_err-rest.ensures.conjunctions))
+
+pub returns-in_err-rest-clause-grows : goal.returns-in_err-rest-clause-grows
+returns-in_err-rest-clause-grows c = grown (returns-in_err-rest-clause-conjunctions c)
+
+pub returns-clause-conjunctions : goal.returns-clause-conjunctions
+returns-clause-conjunctions c = AddsConjunctions-trans c.in_ok-difference.ensures.conjunctions (AddsConjunctions-trans c.in_ok-small.ensures.conjunctions (AddsConjunctions-trans c.in_ok-digit.ensures.conjunctions c.in_ok-rest.ensures.conjunctions))
+
+pub returns-clause-grows : goal.returns-clause-grows
+returns-clause-grows c = grown (returns-clause-conjunctions c)
 
 pub returns-clause-division : goal.returns-clause-division
 returns-clause-division c values v below =

@@ -1,9 +1,47 @@
 use Rattle.std.proofs.Common.{◌-◌, get_or, ap, ◌∙◌}
 use Rattle.gates.specs.Literal.{always}
 use Rattle.gates.specs.Valuation.{value_of}
+use Rattle.gates.proofs.Growth.{AddsConjunctions-trans}
 use Rattle.gates.proofs.Meaning.{IsValuation-Grows}
+use Rattle.word_bits.proofs.Circuits.{grown}
 use Rattle.word_bits.proofs.Quotients.{divided_by_sizes}
 use Rattle.word_bits.proofs.division.sdiv_rem.Goals as goal
+
+pub returns-in_err-divisor-clause-conjunctions : goal.returns-in_err-divisor-clause-conjunctions
+returns-in_err-divisor-clause-conjunctions c = AddsConjunctions-trans c.in_ok-dividend.ensures.conjunctions c.in_err-divisor.ensures.conjunctions
+
+pub returns-in_err-divisor-clause-grows : goal.returns-in_err-divisor-clause-grows
+returns-in_err-divisor-clause-grows c = grown (returns-in_err-divisor-clause-conjunctions c)
+
+pub returns-in_err-quotient-clause-conjunctions : goal.returns-in_err-quotient-clause-conjunctions
+returns-in_err-quotient-clause-conjunctions c = AddsConjunctions-trans c.in_ok-dividend.ensures.conjunctions (AddsConjunctions-trans c.in_ok-divisor.ensures.conjunctions c.in_err-quotient.ensures.conjunctions)
+
+pub returns-in_err-quotient-clause-grows : goal.returns-in_err-quotient-clause-grows
+returns-in_err-quotient-clause-grows c = grown (returns-in_err-quotient-clause-conjunctions c)
+
+pub returns-in_err-apart-clause-conjunctions : goal.returns-in_err-apart-clause-conjunctions
+returns-in_err-apart-clause-conjunctions c = AddsConjunctions-trans c.in_ok-dividend.ensures.conjunctions (AddsConjunctions-trans c.in_ok-divisor.ensures.conjunctions (AddsConjunctions-trans c.in_ok-quotient.ensures.conjunctions c.in_err-apart.ensures.conjunctions))
+
+pub returns-in_err-apart-clause-grows : goal.returns-in_err-apart-clause-grows
+returns-in_err-apart-clause-grows c = grown (returns-in_err-apart-clause-conjunctions c)
+
+pub returns-in_err-signed_quotient-clause-conjunctions : goal.returns-in_err-signed_quotient-clause-conjunctions
+returns-in_err-signed_quotient-clause-conjunctions c = AddsConjunctions-trans c.in_ok-dividend.ensures.conjunctions (AddsConjunctions-trans c.in_ok-divisor.ensures.conjunctions (AddsConjunctions-trans c.in_ok-quotient.ensures.conjunctions (AddsConjunctions-trans c.in_ok-apart.ensures.conjunctions c.in_err-signed_quotient.ensures.conjunctions)))
+
+pub returns-in_err-signed_quotient-clause-grows : goal.returns-in_err-signed_quotient-clause-grows
+returns-in_err-signed_quotient-clause-grows c = grown (returns-in_err-signed_quotient-clause-conjunctions c)
+
+pub returns-in_err-signed_remainder-clause-conjunctions : goal.returns-in_err-signed_remainder-clause-conjunctions
+returns-in_err-signed_remainder-clause-conjunctions c = AddsConjunctions-trans c.in_ok-dividend.ensures.conjunctions (AddsConjunctions-trans c.in_ok-divisor.ensures.conjunctions (AddsConjunctions-trans c.in_ok-quotient.ensures.conjunctions (AddsConjunctions-trans c.in_ok-apart.ensures.conjunctions (AddsConjunctions-trans c.in_ok-signed_quotient.ensures.conjunctions c.in_err-signed_remainder.ensures.conjunctions))))
+
+pub returns-in_err-signed_remainder-clause-grows : goal.returns-in_err-signed_remainder-clause-grows
+returns-in_err-signed_remainder-clause-grows c = grown (returns-in_err-signed_remainder-clause-conjunctions c)
+
+pub returns-clause-conjunctions : goal.returns-clause-conjunctions
+returns-clause-conjunctions c = AddsConjunctions-trans c.in_ok-dividend.ensures.conjunctions (AddsConjunctions-trans c.in_ok-divisor.ensures.conjunctions (AddsConjunctions-trans c.in_ok-quotient.ensures.conjunctions (AddsConjunctions-trans c.in_ok-apart.ensures.conjunctions (AddsConjunctions-trans c.in_ok-signed_quotient.ensures.conjunctions c.in_ok-signed_remainder.ensures.conjunctions))))
+
+pub returns-clause-grows : goal.returns-clause-grows
+returns-clause-grows c = grown (returns-clause-conjunctions c)
 
 pub returns-clause-quotient : goal.returns-clause-quotient
 returns-clause-quotient c values v positive =

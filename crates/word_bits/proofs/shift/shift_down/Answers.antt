@@ -1,6 +1,25 @@
 use Rattle.gates.specs.Valuation.{value_of}
+use Rattle.gates.proofs.Growth.{Grows-refl, AddsConjunctions-refl}
 use Rattle.word_bits.proofs.Shifts.{shifted_down}
 use Rattle.word_bits.proofs.shift.shift_down.Goals as goal
+
+pub returns-in_err-filled-clause-grows : goal.returns-in_err-filled-clause-grows
+returns-in_err-filled-clause-grows c = Grows-refl _
+
+pub returns-in_err-filled-clause-conjunctions : goal.returns-in_err-filled-clause-conjunctions
+returns-in_err-filled-clause-conjunctions c = AddsConjunctions-refl _
+
+pub returns-in_err-kept-clause-grows : goal.returns-in_err-kept-clause-grows
+returns-in_err-kept-clause-grows c = Grows-refl _
+
+pub returns-in_err-kept-clause-conjunctions : goal.returns-in_err-kept-clause-conjunctions
+returns-in_err-kept-clause-conjunctions c = AddsConjunctions-refl _
+
+pub returns-in_err-moved-clause-grows : goal.returns-in_err-moved-clause-grows
+returns-in_err-moved-clause-grows c = Grows-refl _
+
+pub returns-in_err-moved-clause-conjunctions : goal.returns-in_err-moved-clause-conjunctions
+returns-in_err-moved-clause-conjunctions c = AddsConjunctions-refl _
 
 pub returns-clause-shifted : goal.returns-clause-shifted
 returns-clause-shifted c values v =

@@ -1,7 +1,26 @@
 use Rattle.std.proofs.Common.{◌-◌, take, ap, ◌∙◌}
 use Rattle.gates.specs.Valuation.{value_of}
+use Rattle.gates.proofs.Growth.{Grows-refl, AddsConjunctions-refl}
 use Rattle.word_bits.proofs.Shifts.{shifted_up}
 use Rattle.word_bits.proofs.shift.shift_up.Goals as goal
+
+pub returns-in_err-zeros-clause-grows : goal.returns-in_err-zeros-clause-grows
+returns-in_err-zeros-clause-grows c = Grows-refl _
+
+pub returns-in_err-zeros-clause-conjunctions : goal.returns-in_err-zeros-clause-conjunctions
+returns-in_err-zeros-clause-conjunctions c = AddsConjunctions-refl _
+
+pub returns-in_err-kept-clause-grows : goal.returns-in_err-kept-clause-grows
+returns-in_err-kept-clause-grows c = Grows-refl _
+
+pub returns-in_err-kept-clause-conjunctions : goal.returns-in_err-kept-clause-conjunctions
+returns-in_err-kept-clause-conjunctions c = AddsConjunctions-refl _
+
+pub returns-in_err-moved-clause-grows : goal.returns-in_err-moved-clause-grows
+returns-in_err-moved-clause-grows c = Grows-refl _
+
+pub returns-in_err-moved-clause-conjunctions : goal.returns-in_err-moved-clause-conjunctions
+returns-in_err-moved-clause-conjunctions c = AddsConjunctions-refl _
 
 pub returns-clause-shifted : goal.returns-clause-shifted
 returns-clause-shifted c values v =

@@ -1,12 +1,26 @@
 use Rattle.std.proofs.Common.{◌+◌, ◌*◌, ◌%◌, ◌^◌, ◌<◌, ◌≤◌, length, take, ap, sym, ◌∙◌, ◌⊎◌, arith, rules}
+use Rattle.gates.specs.Literal.{span}
 use Rattle.gates.specs.Valuation.{value_of}
+use Rattle.gates.proofs.Growth.{Grows-trans, AddsConjunctions-trans, Grows-refl, AddsConjunctions-refl}
 use Rattle.gates.proofs.Meaning.{IsValuation-Grows}
 use Rattle.word_bits.specs.Number.{digit}
 use Rattle.word_bits.specs.Words.{unsigned}
-use Rattle.word_bits.proofs.Circuits.{circuits, belongs}
+use Rattle.word_bits.proofs.Circuits.{grown}
 use Rattle.word_bits.proofs.Numbers.{unsigned-below, unsigned-more, pow_more}
 use Rattle.word_bits.proofs.Shifts.{shift_more, first_stage, amount_whole}
 use Rattle.word_bits.proofs.shift.shl.Goals as goal
+
+pub returns-in_err-shifted-clause-grows : goal.returns-in_err-shifted-clause-grows
+returns-in_err-shifted-clause-grows c = Grows-refl _
+
+pub returns-in_err-shifted-clause-conjunctions : goal.returns-in_err-shifted-clause-conjunctions
+returns-in_err-shifted-clause-conjunctions c = AddsConjunctions-refl _
+
+pub returns-in_err-shifted-2-clause-conjunctions : goal.returns-in_err-shifted-2-clause-conjunctions
+returns-in_err-shifted-2-clause-conjunctions c = AddsConjunctions-trans c.loop-i.invariant.conjunctions c.in_err-shifted-2.ensures.conjunctions
+
+pub returns-in_err-shifted-2-clause-grows : goal.returns-in_err-shifted-2-clause-grows
+returns-in_err-shifted-2-clause-grows c = grown (returns-in_err-shifted-2-clause-conjunctions c)
 
 pub loop-i-init : goal.loop-i-init
 loop-i-init c = record {
@@ -14,9 +28,9 @@ loop-i-init c = record {
   distance = search rules;
   width = ap length c.in_ok-shifted.ensures;
   spells = λ values v. ap (unsigned values) c.in_ok-shifted.ensures ∙ first_stage (unsigned values c.args.a.now) (2 ^ length c.args.a.now) (unsigned-below values c.args.a.now);
-  belongs = grind (arith, belongs, c.in_ok-shifted.ensures);
-  grows = grind (arith, circuits);
-  conjunctions = grind (arith, circuits);
+  belongs = omega (arith, ap span c.in_ok-shifted.ensures);
+  grows = Grows-refl _;
+  conjunctions = AddsConjunctions-refl _;
 }
 
 pub loop-i-preserved : goal.loop-i-preserved
@@ -37,8 +51,8 @@ loop-i-preserved c =
           ∙ shift_more a s t (2 ^ c.loop-i.i) m b (c.loop-i.invariant.spells values (IsValuation-Grows c.in_ok-shifted-2.ensures.grows v))
           ∙ ap (λ n. (a * 2 ^ n) % m) (sym (unsigned-more values c.args.by.now c.loop-i.i in_by ∙ ap (λ l. t + 2 ^ c.loop-i.i * digit (value_of values l)) (sym c.get.ensures)));
       belongs = c.in_ok-shifted-2.ensures.belongs;
-      grows = grind (arith, circuits);
-      conjunctions = grind (arith, circuits);
+      grows = Grows-trans c.loop-i.invariant.grows c.in_ok-shifted-2.ensures.grows;
+      conjunctions = AddsConjunctions-trans c.loop-i.invariant.conjunctions c.in_ok-shifted-2.ensures.conjunctions;
     }
 
 pub returns-clause-shifted : goal.returns-clause-shifted

@@ -1,10 +1,17 @@
 use Rattle.std.proofs.Common.{◌≡◌, ◌+◌, ◌-◌, ◌*◌, ◌^◌, ◌<◌, ◌∙◌, length, arith, ap, subst}
 use Rattle.std.proofs.lemmas.List.{length-replicate}
 use Rattle.gates.specs.Valuation.{value_of}
+use Rattle.gates.proofs.Growth.{Grows-refl, AddsConjunctions-refl}
 use Rattle.word_bits.specs.Number.{digit}
 use Rattle.word_bits.specs.Words.{unsigned}
 use Rattle.word_bits.proofs.Numbers.{remainder_from_carry, unsigned-below, unsigned-zeros}
 use Rattle.word_bits.proofs.sum.neg.Goals as goal
+
+pub returns-in_err-zero-clause-grows : goal.returns-in_err-zero-clause-grows
+returns-in_err-zero-clause-grows c = Grows-refl _
+
+pub returns-in_err-zero-clause-conjunctions : goal.returns-in_err-zero-clause-conjunctions
+returns-in_err-zero-clause-conjunctions c = AddsConjunctions-refl _
 
 pub returns-clause-negation : goal.returns-clause-negation
 returns-clause-negation c values v =
