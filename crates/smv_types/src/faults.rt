@@ -1,5 +1,5 @@
 //! What is wrong with the types of an instance.
-ghost use Rattle.std.specs.Prelude.{◌≡◌, [], IfOk, map, flat_map};
+ghost use Rattle.std.specs.Prelude.{◌≡◌, [], false, IfOk, map, flat_map, slice_get, unwrap_or};
 ghost use Rattle.smv_tree.specs.Trees.{expr_tree};
 ghost use Rattle.smv_tree.specs.Models.{part_of};
 ghost use Rattle.type_fault.specs.First.{earliest};
@@ -82,7 +82,9 @@ fn item_fault<N: Names + Variables>(
 }
 
 /// Whether the item of a number is an assignment that an earlier one excludes.
-fn is_again(flags: &[bool], number: usize) -> bool {
+fn is_again(flags: &[bool], number: usize) -> bool
+    ensures { result ≡ unwrap_or (slice_get flags.now number) false }
+{
     match flags.get(number) {
         Some(again) => *again,
         None => false,
