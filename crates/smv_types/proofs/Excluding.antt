@@ -1,5 +1,5 @@
 -- Names of which an assignment is excluded, as parts are walked.
-use Rattle.std.proofs.Common.{◌≡◌, ℕ, suc, zero, ◌+◌, ◌<◌, Bool, true, false, cond, List, [], ◌∷◌, ◌++◌, ◌||◌, ◌&&◌, length, map, take, refl, ap, sym, ◌∙◌, subst, arith, length-append, below_more}
+use Rattle.std.proofs.Common.{◌≡◌, ℕ, suc, zero, ◌+◌, ◌<◌, ◌≤◌, Bool, true, false, cond, List, [], ◌∷◌, ◌++◌, ◌||◌, ◌&&◌, length, map, take, refl, ap, sym, ◌∙◌, subst, arith, length-append, below_more}
 use Rattle.std.specs.Prelude.{Option, Some, None, is_some, if◌then◌else◌, slice_get}
 use Rattle.std.specs.Map.{lookup}
 use Rattle.std.specs.List.{list_any}
@@ -103,10 +103,10 @@ module _ (parts : List Part) (i : ℕ) (part : Part) (at : slice_get parts i ≡
           ∙ ap Some (same ∙ (again_same w.excluded ∙ ap (is_again (take i parts)) own))))
 
 pub none_walked : (parts : List Part) (flags : List Bool) (e : Excluded) → flags ≡ [] → ((m : Moment) (n : List ℕ) → is_excluded e m n ≡ false) → Walked parts 0 flags e
-none_walked parts flags e none no = record {
-  counted = ap length none;
+none_walked parts flags e empty unknown = record {
+  counted = ap length empty;
   flagged = λ k l q h. absurd (omega arith);
-  excluded = no;
+  excluded = unknown;
 }
 
 pub all_walked : (xs ys : List Item) (i : ℕ) (flags : List Bool) (e : Excluded) → xs ≡ ys → length xs ≤ i → Walked (map part_of xs) i flags e → AreAgain (map part_of ys) flags
