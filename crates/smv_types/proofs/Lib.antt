@@ -1,0 +1,4 @@
+pub mod Agreement
+pub mod Settling
+pub mod Excluding
+pub mod PartFaults

@@ -1,0 +1,4 @@
+pub mod Standings
+pub mod Assigning
+pub mod Faults
+pub mod Excluded
